@@ -1,0 +1,14 @@
+-- Numbers in bytes, low byte first, and parts of a list of bytes.
+-- Assumes nothing.
+use Prim.Native.Nat.{ℕ, zero, suc, _+_, _/_, _%_}
+use mathlib.Core.List.{List, [], _∷_, _++_}
+use lib.ListN.{length, take, drop}
+
+-- the n lowest bytes of x
+unfoldable pub le : ℕ → ℕ → List ℕ
+le zero x = []
+le (suc n) x = x % 256 ∷ le n (x / 256)
+
+-- s with p in place of what stood from `at` on
+unfoldable pub patch : List ℕ → ℕ → List ℕ → List ℕ
+patch s at p = take at s ++ (p ++ drop (at + length p) s)

@@ -1,0 +1,4 @@
+-- What bits and bytes of numbers mean, for every crate above.
+pub mod Bits
+pub mod Bytes
+pub mod Match

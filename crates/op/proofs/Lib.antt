@@ -1,0 +1,3 @@
+-- Laws of ops and their records.
+pub mod Record
+pub mod Signed

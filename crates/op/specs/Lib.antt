@@ -1,0 +1,3 @@
+-- What an op's kind and record are, in document 01's numbers.
+pub mod Kinds
+pub mod Record

@@ -1,0 +1,355 @@
+// Ops as the Rust has them, and an op as document 01's record of sixteen bytes. (block.rs, types)
+ghost use mathlib.Core.Path.{_≡_};
+ghost use Prim.Native.Nat.{_+_, _≤_};
+ghost use lib.ListN.{length};
+ghost use Rattle.bits.specs.Bytes.{patch};
+ghost use Rattle.op.specs.Kinds.{aluNumber, loadNumber, storeNumber, branchNumber};
+ghost use Rattle.op.specs.Record.{bits64, fields, opFields, opBytes, opRecord};
+
+pub enum AluKind {
+    Add,
+    Sub,
+    Sll,
+    Slt,
+    Sltu,
+    Xor,
+    Srl,
+    Sra,
+    Or,
+    And,
+    Addw,
+    Subw,
+    Sllw,
+    Srlw,
+    Sraw,
+    Mul,
+    Mulh,
+    Mulhsu,
+    Mulhu,
+    Div,
+    Divu,
+    Rem,
+    Remu,
+    Mulw,
+    Divw,
+    Divuw,
+    Remw,
+    Remuw,
+    Andn,
+    Orn,
+    Xnor,
+    Rol,
+    Ror,
+    Rolw,
+    Rorw,
+    Min,
+    Max,
+    Minu,
+    Maxu,
+    Clz,
+    Ctz,
+    Cpop,
+    Clzw,
+    Ctzw,
+    Cpopw,
+    SextB,
+    SextH,
+    ZextH,
+    Rev8,
+    OrcB,
+    Sh1add,
+    Sh2add,
+    Sh3add,
+    AddUw,
+    Sh1addUw,
+    Sh2addUw,
+    Sh3addUw,
+    SlliUw,
+}
+
+pub enum LoadKind {
+    Lb,
+    Lbu,
+    Lh,
+    Lhu,
+    Lw,
+    Lwu,
+    Ld,
+}
+
+pub enum StoreKind {
+    Sb,
+    Sh,
+    Sw,
+    Sd,
+}
+
+pub enum BranchKind {
+    Beq,
+    Bne,
+    Blt,
+    Bge,
+    Bltu,
+    Bgeu,
+}
+
+pub enum Op {
+    Lui {
+        rd: u8,
+        imm: i64,
+    },
+    Auipc {
+        rd: u8,
+        imm: i64,
+    },
+    AluImm {
+        kind: AluKind,
+        rd: u8,
+        rs1: u8,
+        imm: i64,
+    },
+    AluReg {
+        kind: AluKind,
+        rd: u8,
+        rs1: u8,
+        rs2: u8,
+    },
+    Load {
+        kind: LoadKind,
+        rd: u8,
+        rs1: u8,
+        imm: i64,
+    },
+    Store {
+        kind: StoreKind,
+        rs1: u8,
+        rs2: u8,
+        imm: i64,
+    },
+    Branch {
+        kind: BranchKind,
+        rs1: u8,
+        rs2: u8,
+        offset: i64,
+    },
+    Jal {
+        rd: u8,
+        offset: i64,
+    },
+    Jalr {
+        rd: u8,
+        rs1: u8,
+        imm: i64,
+    },
+
+    Fallback {
+        raw: u32,
+    },
+}
+
+// What a decoder answers: the Rust's `Option<Op>`.
+pub enum Decoded {
+    Some(Op),
+    None,
+}
+
+fn alu_number(kind: AluKind) -> u8
+    ensures { λ r. ⌜ r ≡ aluNumber kind ⌝ }
+{
+    match kind {
+        AluKind::Add => 0,
+        AluKind::Sub => 1,
+        AluKind::Sll => 2,
+        AluKind::Slt => 3,
+        AluKind::Sltu => 4,
+        AluKind::Xor => 5,
+        AluKind::Srl => 6,
+        AluKind::Sra => 7,
+        AluKind::Or => 8,
+        AluKind::And => 9,
+        AluKind::Addw => 10,
+        AluKind::Subw => 11,
+        AluKind::Sllw => 12,
+        AluKind::Srlw => 13,
+        AluKind::Sraw => 14,
+        AluKind::Mul => 15,
+        AluKind::Mulh => 16,
+        AluKind::Mulhsu => 17,
+        AluKind::Mulhu => 18,
+        AluKind::Div => 19,
+        AluKind::Divu => 20,
+        AluKind::Rem => 21,
+        AluKind::Remu => 22,
+        AluKind::Mulw => 23,
+        AluKind::Divw => 24,
+        AluKind::Divuw => 25,
+        AluKind::Remw => 26,
+        AluKind::Remuw => 27,
+        AluKind::Andn => 28,
+        AluKind::Orn => 29,
+        AluKind::Xnor => 30,
+        AluKind::Rol => 31,
+        AluKind::Ror => 32,
+        AluKind::Rolw => 33,
+        AluKind::Rorw => 34,
+        AluKind::Min => 35,
+        AluKind::Max => 36,
+        AluKind::Minu => 37,
+        AluKind::Maxu => 38,
+        AluKind::Clz => 39,
+        AluKind::Ctz => 40,
+        AluKind::Cpop => 41,
+        AluKind::Clzw => 42,
+        AluKind::Ctzw => 43,
+        AluKind::Cpopw => 44,
+        AluKind::SextB => 45,
+        AluKind::SextH => 46,
+        AluKind::ZextH => 47,
+        AluKind::Rev8 => 48,
+        AluKind::OrcB => 49,
+        AluKind::Sh1add => 50,
+        AluKind::Sh2add => 51,
+        AluKind::Sh3add => 52,
+        AluKind::AddUw => 53,
+        AluKind::Sh1addUw => 54,
+        AluKind::Sh2addUw => 55,
+        AluKind::Sh3addUw => 56,
+        AluKind::SlliUw => 57,
+    }
+}
+
+fn load_number(kind: LoadKind) -> u8
+    ensures { λ r. ⌜ r ≡ loadNumber kind ⌝ }
+{
+    match kind {
+        LoadKind::Lb => 0,
+        LoadKind::Lbu => 1,
+        LoadKind::Lh => 2,
+        LoadKind::Lhu => 3,
+        LoadKind::Lw => 4,
+        LoadKind::Lwu => 5,
+        LoadKind::Ld => 6,
+    }
+}
+
+fn store_number(kind: StoreKind) -> u8
+    ensures { λ r. ⌜ r ≡ storeNumber kind ⌝ }
+{
+    match kind {
+        StoreKind::Sb => 0,
+        StoreKind::Sh => 1,
+        StoreKind::Sw => 2,
+        StoreKind::Sd => 3,
+    }
+}
+
+fn branch_number(kind: BranchKind) -> u8
+    ensures { λ r. ⌜ r ≡ branchNumber kind ⌝ }
+{
+    match kind {
+        BranchKind::Beq => 0,
+        BranchKind::Bne => 1,
+        BranchKind::Blt => 2,
+        BranchKind::Bge => 3,
+        BranchKind::Bltu => 4,
+        BranchKind::Bgeu => 5,
+    }
+}
+
+// What an op itself says in its record. Its length and its place in the block are told by whoever places it.
+pub struct OpRecord {
+    pub op: u8,
+    pub kind: u8,
+    pub rd: u8,
+    pub rs1: u8,
+    pub rs2: u8,
+    pub imm: u64,
+}
+
+fn fields(op: u8, kind: u8, rd: u8, rs1: u8, rs2: u8, imm: u64) -> OpRecord
+    ensures { λ r. ⌜ r ≡ fields op kind rd rs1 rs2 imm ⌝ }
+{
+    OpRecord {
+        op,
+        kind,
+        rd,
+        rs1,
+        rs2,
+        imm,
+    }
+}
+
+// A signed number's bits, since a cast from a negative number is none of the language's.
+fn bits_of(z: i64) -> u64
+    ensures { λ r. ⌜ r ≡ bits64 z ⌝ }
+{
+    if z >= 0 {
+        z as u64
+    } else {
+        u64::MAX - (!z) as u64
+    }
+}
+
+pub fn fields_of(op: Op) -> OpRecord
+    ensures { λ r. ⌜ r ≡ opFields op ⌝ }
+{
+    match op {
+        Op::Lui { rd, imm } => fields(0, 0, rd, 0, 0, bits_of(imm)),
+        Op::Auipc { rd, imm } => fields(1, 0, rd, 0, 0, bits_of(imm)),
+        Op::AluImm { kind, rd, rs1, imm } => fields(2, alu_number(kind), rd, rs1, 0, bits_of(imm)),
+        Op::AluReg { kind, rd, rs1, rs2 } => fields(3, alu_number(kind), rd, rs1, rs2, 0),
+        Op::Load { kind, rd, rs1, imm } => fields(4, load_number(kind), rd, rs1, 0, bits_of(imm)),
+        Op::Store {
+            kind,
+            rs1,
+            rs2,
+            imm,
+        } => fields(5, store_number(kind), 0, rs1, rs2, bits_of(imm)),
+        Op::Branch {
+            kind,
+            rs1,
+            rs2,
+            offset,
+        } => fields(6, branch_number(kind), 0, rs1, rs2, bits_of(offset)),
+        Op::Jal { rd, offset } => fields(7, 0, rd, 0, 0, bits_of(offset)),
+        Op::Jalr { rd, rs1, imm } => fields(8, 0, rd, rs1, 0, bits_of(imm)),
+        Op::Fallback { raw } => fields(9, 0, 0, 0, 0, raw as u64),
+    }
+}
+
+impl OpRecord {
+    pub const LEN: usize = 16;
+
+    pub fn bytes(self, ilen: u8, off: u16) -> [u8; 16]
+        ensures { λ r. ⌜ r ≡ opBytes self ilen off ⌝ }
+    {
+        let imm = self.imm;
+        [
+            self.op,
+            self.kind,
+            self.rd,
+            self.rs1,
+            self.rs2,
+            ilen,
+            (off % 256) as u8,
+            (off / 256 % 256) as u8,
+            (imm % 256) as u8,
+            (imm / 256 % 256) as u8,
+            (imm / 0x1_0000 % 256) as u8,
+            (imm / 0x100_0000 % 256) as u8,
+            (imm / 0x1_0000_0000 % 256) as u8,
+            (imm / 0x100_0000_0000 % 256) as u8,
+            (imm / 0x1_0000_0000_0000 % 256) as u8,
+            (imm / 0x100_0000_0000_0000 % 256) as u8,
+        ]
+    }
+}
+
+// Writes an op's record through a mutable part of the lent bytes; those around it stay.
+pub fn write_op(out: &mut [u8], at: usize, op: Op, ilen: u8, off: u16)
+    requires { ⌜ at + 16 ≤ length (now out) ⌝ }
+    ensures { λ _. ⌜ now (out .exit) ≡ patch (now (out .entry)) at (opRecord op ilen off) ⌝ }
+{
+    let record = fields_of(op).bytes(ilen, off);
+    bits::copy_all(&record, &mut out[at..at + OpRecord::LEN]);
+}
