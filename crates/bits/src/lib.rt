@@ -1,6 +1,7 @@
 // Numbers in bits and bytes: what every other crate reads and writes numbers with.
 ghost use mathlib.Core.Path.{_≡_};
 ghost use Prim.Native.Nat.{_<_, _≤_, _^_};
+ghost use lib.IntN.{pos};
 ghost use lib.ListN.{length};
 ghost use Rattle.bits.specs.Bits.{signed};
 
@@ -15,6 +16,13 @@ pub fn sign_extend(val: u64, bits: u32) -> i64
     } else {
         (val as i64) - (whole as i64)
     }
+}
+
+// A number that is not negative, as a signed one.
+pub fn zero_extend(val: u32) -> i64
+    ensures { λ r. ⌜ r ≡ pos val ⌝ }
+{
+    val as i64
 }
 
 // All of src over all of dst.

@@ -1,0 +1,4 @@
+-- What the Rust reads words and halfwords as.
+pub mod Instruction
+pub mod Full
+pub mod Compressed
