@@ -2,3 +2,4 @@
 pub mod Instruction
 pub mod Full
 pub mod Compressed
+pub mod Call

@@ -1,4 +1,44 @@
-// Words and halfwords to ops, as the Rust reads them. (decode.rs; block.rs, `decode_full` and `decode_compressed`)
+// Words and halfwords to ops, as the Rust reads them, and the two public calls that decode one.
+// (decode.rs; block.rs, `decode_full` and `decode_compressed`)
 pub mod compressed;
 pub mod full;
 pub mod instruction;
+
+ghost use mathlib.Core.Path.{_≡_};
+ghost use Rattle.decode.specs.Call.{decodeNumber, decodeCall, wordCall, halfCall};
+use op::Decoded;
+use op::OpRecord;
+
+// What a decode call answers.
+pub enum DecodeAnswer {
+    OpWritten,
+    NoOp,
+    WrongOpBuffer,
+}
+
+fn answer(decoded: Decoded, ilen: u8, lent: &mut [u8]) -> DecodeAnswer
+    ensures { λ r. ⌜ (decodeNumber r, now (lent .exit)) ≡ decodeCall decoded ilen (now (lent .entry)) ⌝ }
+{
+    if lent.len() != OpRecord::LEN {
+        return DecodeAnswer::WrongOpBuffer;
+    }
+    let Decoded::Some(op) = decoded else {
+        return DecodeAnswer::NoOp;
+    };
+    op::write_op(lent, 0, op, ilen, 0);
+    DecodeAnswer::OpWritten
+}
+
+// Decodes a word into the lent record.
+pub fn decode_word(raw: u32, lent: &mut [u8]) -> DecodeAnswer
+    ensures { λ r. ⌜ (decodeNumber r, now (lent .exit)) ≡ wordCall raw (now (lent .entry)) ⌝ }
+{
+    answer(full::decode_full(raw), 4, lent)
+}
+
+// Decodes a halfword into the lent record.
+pub fn decode_halfword(raw: u16, lent: &mut [u8]) -> DecodeAnswer
+    ensures { λ r. ⌜ (decodeNumber r, now (lent .exit)) ≡ halfCall raw (now (lent .entry)) ⌝ }
+{
+    answer(compressed::decode_compressed(raw), 2, lent)
+}

@@ -1,0 +1,32 @@
+-- The two decode calls: document 01's number, and the lent bytes afterwards.
+-- Assumes nothing.
+use Prim.Native.Nat.{ℕ}
+use mathlib.Core.Bool.{cond}
+use mathlib.Core.List.{List}
+use lib.Dec.{eqb}
+use lib.ListN.{length}
+use Rattle.op.specs.Record.{opRecord}
+use Rattle.op.specs.declared.Decoded.{Decoded}
+use Rattle.op.specs.declared.Decoded.the-variants.{Some, None}
+use Rattle.decode.specs.Full.{rustWord}
+use Rattle.decode.specs.Compressed.{rustHalf}
+use Rattle.decode.specs.declared.DecodeAnswer.{DecodeAnswer}
+use Rattle.decode.specs.declared.DecodeAnswer.the-variants.{OpWritten, NoOp, WrongOpBuffer}
+
+abbrev pub decodeNumber : DecodeAnswer → ℕ
+decodeNumber OpWritten = 0
+decodeNumber NoOp = 4
+decodeNumber WrongOpBuffer = 6
+
+abbrev pub recordOrNone : Decoded → ℕ → List ℕ → ℕ × List ℕ
+recordOrNone (Some op) ilen lent = (0, opRecord op ilen 0)
+recordOrNone None ilen lent = (4, lent)
+
+abbrev pub decodeCall : Decoded → ℕ → List ℕ → ℕ × List ℕ
+decodeCall decoded ilen lent = cond (eqb (length lent) 16) (recordOrNone decoded ilen lent) (6, lent)
+
+abbrev pub wordCall : ℕ → List ℕ → ℕ × List ℕ
+wordCall raw lent = decodeCall (rustWord raw) 4 lent
+
+abbrev pub halfCall : ℕ → List ℕ → ℕ × List ℕ
+halfCall raw lent = decodeCall (rustHalf raw) 2 lent
