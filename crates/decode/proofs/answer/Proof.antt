@@ -22,5 +22,8 @@ answer-spec =
     let start = known .before .before .before .before in
     let op = known .decoded .given .0 .0 in
     let long = known .before .before .if1 .left in
-    rw (eq-eqb _ _ long, known .decoded .given .1,
-    c .before .before .write-op .ensures ∙ patch-whole (start .args .lent .now) (opRecord op (start .args .ilen) 0) (long ∙ sym (length-record op (start .args .ilen) 0)))))
+    rw (
+      eq-eqb _ _ long,
+      known .decoded .given .1,
+      c .before .before .write-op .ensures ∙ patch-whole (start .args .lent .now) (opRecord op (start .args .ilen) 0) (long ∙ sym (length-record op (start .args .ilen) 0)),
+    )))
