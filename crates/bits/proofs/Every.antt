@@ -30,6 +30,15 @@ at (suc n) f t k h =
     let s = both (f n) (every n f) t in
     decide k n (λ e. subst (λ (m : ℕ). T (f m)) (sym e) (s .0)) (λ ne. at n f (s .1) k (omega arith))
 
+-- what is shown at each number below n, as a tuple, holds at every number below n
+abbrev pub All : ℕ → (ℕ → Type 0) → Type 0
+All zero P = Unit {0}
+All (suc n) P = All n P × P n
+
+pub each : (n : ℕ) (P : ℕ → Type 0) → All n P → (k : ℕ) → k < n → P k
+each zero P t k h = absurd (not-suc-le-zero h)
+each (suc n) P t k h = decide k n (λ e. subst P (sym e) (t .1)) (λ ne. each n P (t .0) k (omega arith))
+
 -- a test of three numbers: where `hard` is false of the first two it computes with the third left open, elsewhere at each third number
 module _ (l m n : ℕ) (hard : ℕ → ℕ → Bool) (f : ℕ → ℕ → ℕ → Bool)
     (open-test : (z : ℕ) → T (every l (λ x. every m (λ y. hard x y || f x y z))))

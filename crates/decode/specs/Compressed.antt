@@ -75,6 +75,13 @@ miscRows w =
     (0 ⇒ primeImm Srl w (pos (imm6 w))) ∷ (1 ⇒ primeImm Sra w (pos (imm6 w))) ∷ (2 ⇒ primeImm And w (signed 6 (imm6 w)))
     ∷ []
 
+-- quadrant 2, funct3 4
+abbrev pub jrMv : ℕ → Decoded
+jrMv w = cond (eqb (cRs2 w) 0) (Some (Jalr 0 (cRd w) (pos 0))) (Some (AluReg Add (cRd w) 0 (cRs2 w)))
+
+abbrev pub jalrAdd : ℕ → Decoded
+jalrAdd w = cond (eqb (cRs2 w) 0) (cond (eqb (cRd w) 0) None (Some (Jalr 1 (cRd w) (pos 0)))) (Some (AluReg Add (cRd w) (cRd w) (cRs2 w)))
+
 -- the key has the quadrant and then funct3, in hexadecimal: 0x15 is the Rust's (1, 0x5)
 abbrev pub halfRows : ℕ → List (Row Decoded)
 halfRows w =
@@ -94,12 +101,7 @@ halfRows w =
     ∷ (0x20 ⇒ Some (AluImm Sll (cRd w) (cRd w) (pos (imm6 w))))
     ∷ (0x22 ⇒ Some (Load Lw (cRd w) 2 (pos (uimmLwsp w))))
     ∷ (0x23 ⇒ Some (Load Ld (cRd w) 2 (pos (uimmLdsp w))))
-    ∷ (0x24 ⇒
-    cond (eqb (bitsAt w 12 1) 0)
-    (cond (eqb (cRs2 w) 0) (Some (Jalr 0 (cRd w) (pos 0))) (Some (AluReg Add (cRd w) 0 (cRs2 w))))
-    (cond (eqb (cRs2 w) 0)
-    (cond (eqb (cRd w) 0) None (Some (Jalr 1 (cRd w) (pos 0))))
-    (Some (AluReg Add (cRd w) (cRd w) (cRs2 w)))))
+    ∷ (0x24 ⇒ cond (eqb (bitsAt w 12 1) 0) (jrMv w) (jalrAdd w))
     ∷ (0x26 ⇒ Some (Store Sw 2 (cRs2 w) (pos (uimmSwsp w))))
     ∷ (0x27 ⇒ Some (Store Sd 2 (cRs2 w) (pos (uimmSdsp w))))
     ∷ []

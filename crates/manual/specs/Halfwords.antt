@@ -95,13 +95,17 @@ arith64 w = (0b00 ⇒ ca Sub w) ∷ (0b01 ⇒ ca Xor w) ∷ (0b10 ⇒ ca Or w) �
 abbrev pub arith32 : ℕ → List (Row Decoded)
 arith32 w = (0b00 ⇒ ca Subw w) ∷ (0b01 ⇒ ca Addw w) ∷ []
 
--- C.SRLI, C.SRAI, C.ANDI, and the two groups above by bit 12; by bits 11 and 10
+-- by bit 12
+abbrev pub groups : ℕ → ℕ → List (Row Decoded)
+groups funct2 w = (0 ⇒ case funct2 (arith64 w) None) ∷ (1 ⇒ case funct2 (arith32 w) None) ∷ []
+
+-- C.SRLI, C.SRAI, C.ANDI, and the two groups above; by bits 11 and 10
 abbrev pub misc-alu : ℕ → List (Row Decoded)
 misc-alu w =
     (0b00 ⇒ Some (AluImm Srl (rs1′ w) (rs1′ w) (pos (imm6 w))))
     ∷ (0b01 ⇒ Some (AluImm Sra (rs1′ w) (rs1′ w) (pos (imm6 w))))
     ∷ (0b10 ⇒ Some (AluImm And (rs1′ w) (rs1′ w) (signed 6 (imm6 w))))
-    ∷ (0b11 ⇒ case (slice w 12 12) ((0 ⇒ case (slice w 6 5) (arith64 w) None) ∷ (1 ⇒ case (slice w 6 5) (arith32 w) None) ∷ []) None)
+    ∷ (0b11 ⇒ case (slice w 12 12) (groups (slice w 6 5) w) None)
     ∷ []
 
 abbrev pub quadrant1 : ℕ → List (Row Decoded)

@@ -1,3 +1,4 @@
--- Laws of ops and their records.
+-- Laws of ops, their kinds and their records.
+pub mod Numbers
 pub mod Record
 pub mod Signed
