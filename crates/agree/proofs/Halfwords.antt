@@ -166,29 +166,24 @@ jumps-apart w h d =
     let l = both (eqb (bitsAt w 12 1) 0) (eqb (cRs2 w) 0) (k .0) in
     some-none (rw (eqb-true (bitsAt w 12 1) 0 (l .0), l .1, k .1) at d)
 
+differ1 : (w f3 : ℕ) → f3 < 8 → Apart w 1 f3
+differ1 w =
+    each 8 (Apart w 1)
+    ((((((((tt, never w 1 0 refl), λ h d. some-none (rw h at d)), never w 1 2 refl), wide-apart w), never w 1 4 refl), never w 1 5 refl), never w 1 6 refl), never w 1 7 refl)
+
+differ2 : (w f3 : ℕ) → f3 < 8 → Apart w 2 f3
+differ2 w =
+    each 8 (Apart w 2)
+    ((((((((tt, never w 2 0 refl), never w 2 1 refl), λ h d. some-none (rw h at d)), λ h d. some-none (rw h at d)), jumps-apart w), never w 2 5 refl), never w 2 6 refl), never w 2 7 refl)
+
 apart : (w q f3 : ℕ) → q < 4 → f3 < 8 → Apart w q f3
-apart w q f3 hq h3 =
-    each 4 (λ q. Apart w q f3) (
-      (
-        (
-          (tt, never w 0 f3 refl),
-          each 8 (Apart w 1)
-              ((((((((tt, never w 1 0 refl), λ h d. some-none (rw h at d)), never w 1 2 refl), wide-apart w), never w 1 4 refl), never w 1 5 refl), never w 1 6 refl), never w 1 7 refl)
-              f3 h3,
-        ),
-        each 8 (Apart w 2)
-            ((((((((tt, never w 2 0 refl), never w 2 1 refl), λ h d. some-none (rw h at d)), λ h d. some-none (rw h at d)), jumps-apart w), never w 2 5 refl), never w 2 6 refl), never w 2 7 refl)
-            f3 h3,
-      ),
-      never w 3 f3 refl,
-    )
-    q hq
+apart w q f3 hq h3 = each 4 (λ q. Apart w q f3) ((((tt, never w 0 f3 refl), differ1 w f3 h3), differ2 w f3 h3), never w 3 f3 refl) q hq
+
+quadrant3 : (w f3 : ℕ) → f3 < 8 → Alike w 3 f3
+quadrant3 w = each 8 (Alike w 3) ((((((((tt, λ h. refl), λ h. refl), λ h. refl), λ h. refl), λ h. refl), λ h. refl), λ h. refl), λ h. refl)
 
 alike : (w q f3 : ℕ) → q < 4 → f3 < 8 → Alike w q f3
-alike w q f3 hq h3 =
-    each 4 (λ q. Alike w q f3)
-    ((((tt, quadrant0 w f3 h3), quadrant1 w f3 h3), quadrant2 w f3 h3), each 8 (Alike w 3) ((((((((tt, λ h. refl), λ h. refl), λ h. refl), λ h. refl), λ h. refl), λ h. refl), λ h. refl), λ h. refl) f3 h3)
-    q hq
+alike w q f3 hq h3 = each 4 (λ q. Alike w q f3) ((((tt, quadrant0 w f3 h3), quadrant1 w f3 h3), quadrant2 w f3 h3), quadrant3 w f3 h3) q hq
 
 pub agree : (w : ℕ) → halfParts w ≡ false → rustHalf w ≡ manualHalf w
 agree w = alike w (bitsAt w 0 2) (bitsAt w 13 3) (omega arith) (omega arith)

@@ -16,6 +16,19 @@ pub enum DecodeAnswer {
     WrongOpBuffer,
 }
 
+impl DecodeAnswer {
+    // Document 01's number.
+    pub fn number(self) -> u64
+        ensures { λ r. ⌜ r ≡ decodeNumber self ⌝ }
+    {
+        match self {
+            Self::OpWritten => 0,
+            Self::NoOp => 4,
+            Self::WrongOpBuffer => 6,
+        }
+    }
+}
+
 fn answer(decoded: Decoded, ilen: u8, lent: &mut [u8]) -> DecodeAnswer
     ensures { λ r. ⌜ (decodeNumber r, now (lent .exit)) ≡ decodeCall decoded ilen (now (lent .entry)) ⌝ }
 {

@@ -1,0 +1,51 @@
+// Document 01's values: those marked P stand in specs/Values.antt as one table, proved; this program runs them through the public calls.
+// A line shows a call's number and the lent bytes afterwards, which start as 170s.
+use libc::STDOUT_FILENO;
+
+fn wide(x: u8) -> u64 {
+    x as u64
+}
+
+fn line(number: u64, lent: &[u8]) {
+    io::print_decimal(STDOUT_FILENO, number);
+    let mut i = 0;
+    while i < lent.len() {
+        io::write_all(STDOUT_FILENO, b" ");
+        io::print_decimal(STDOUT_FILENO, wide(lent[i]));
+        i += 1;
+    }
+    io::write_all(STDOUT_FILENO, b"\n");
+}
+
+fn halfword(raw: u16) {
+    let mut lent = [170u8; 16];
+    let answer = decode::decode_halfword(raw, &mut lent);
+    line(answer.number(), &lent);
+}
+
+fn word(raw: u32) {
+    let mut lent = [170u8; 16];
+    let answer = decode::decode_word(raw, &mut lent);
+    line(answer.number(), &lent);
+}
+
+// A buffer of another length is refused ahead of anything else.
+fn short(raw: u32) {
+    let mut lent = [170u8; 15];
+    let answer = decode::decode_word(raw, &mut lent);
+    line(answer.number(), &lent);
+}
+
+fn main() {
+    halfword(0x0000);
+    halfword(0x9002);
+    halfword(0x8082);
+    word(0x0010_0513);
+    word(0xfff0_0513);
+    word(0x6825_1513);
+    word(0x6045_1513);
+    word(0x6b85_5513);
+    word(0x2875_5513);
+    short(0x0010_0513);
+    short(0x6045_1513);
+}
