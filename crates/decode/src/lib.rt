@@ -42,14 +42,14 @@ fn answer(decoded: Decoded, ilen: u8, lent: &mut [u8]) -> DecodeAnswer
     DecodeAnswer::OpWritten
 }
 
-// Decodes a word into the lent record.
+// Decodes a word into the lent record of sixteen bytes.
 pub fn decode_word(raw: u32, lent: &mut [u8]) -> DecodeAnswer
     ensures { λ r. ⌜ (decodeNumber r, now (lent .exit)) ≡ wordCall raw (now (lent .entry)) ⌝ }
 {
     answer(full::decode_full(raw), 4, lent)
 }
 
-// Decodes a halfword into the lent record.
+// Decodes a halfword into the lent record of sixteen bytes.
 pub fn decode_halfword(raw: u16, lent: &mut [u8]) -> DecodeAnswer
     ensures { λ r. ⌜ (decodeNumber r, now (lent .exit)) ≡ halfCall raw (now (lent .entry)) ⌝ }
 {
