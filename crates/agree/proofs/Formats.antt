@@ -19,10 +19,10 @@ use Rattle.op.specs.declared.LoadKind.the-variants.{Lb}
 use Rattle.op.specs.declared.StoreKind.the-variants.{Sb}
 use Rattle.op.specs.declared.BranchKind.the-variants.{Beq}
 use Rattle.op.proofs.Numbers.{alu-at, load-at, store-at, branch-at}
-use Rattle.decode.specs.Instruction as rust
-use Rattle.decode.specs.Full as rust-word
-use Rattle.decode.specs.declared.full.Form.{Form}
-use Rattle.decode.specs.declared.full.Form.the-variants.{NoForm, Lui, Auipc, Jal, Jalr, Branch, Load, Store, Imm, Shift6, Shift5, Unary, Reg}
+use Rattle.word.specs.Instruction as rust
+use Rattle.word.specs.Word as rust-word
+use Rattle.word.specs.declared.Form.{Form}
+use Rattle.word.specs.declared.Form.the-variants.{NoForm, Lui, Auipc, Jal, Jalr, Branch, Load, Store, Imm, Shift6, Shift5, Unary, Reg}
 use Rattle.manual.specs.Words as manual
 use Rattle.manual.specs.Words.{Format, Reserved, LUI, AUIPC, JAL, JALR, B, L, S, I, I6, I5, I0, R}
 

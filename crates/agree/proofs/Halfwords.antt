@@ -14,9 +14,9 @@ use Rattle.bits.proofs.Every.{All, each, decide}
 use Rattle.op.specs.declared.Op.{Op}
 use Rattle.op.specs.declared.Decoded.{Decoded}
 use Rattle.op.specs.declared.Decoded.the-variants.{Some, None}
-use Rattle.decode.specs.Instruction.{cRd, cRs2}
-use Rattle.decode.specs.Compressed as rust
-use Rattle.decode.specs.Compressed.{halfAt, rustHalf}
+use Rattle.halfword.specs.Instruction.{rd, rs2}
+use Rattle.halfword.specs.Halfword as rust
+use Rattle.halfword.specs.Halfword.{halfAt, rustHalf}
 use Rattle.manual.specs.Halfwords as manual
 use Rattle.manual.specs.Halfwords.{halfBy, manualHalf}
 use Rattle.agree.specs.Differences.{halfPartsBy, halfParts}
@@ -112,8 +112,8 @@ kept false y op other h = refl
 
 jumps : (w : ℕ) → Alike w 2 4
 jumps w =
-    each 2 (λ bit. (eqb bit 0 && eqb (cRs2 w) 0 && eqb (cRd w) 0) ≡ false → cond (eqb bit 0) (rust.jrMv w) (rust.jalrAdd w) ≡ case bit (manual.jumps w) None)
-    ((tt, kept (eqb (cRs2 w) 0) (eqb (cRd w) 0) _ _), λ h. rw (none-if (eqb (cRd w) 0)))
+    each 2 (λ bit. (eqb bit 0 && eqb (rs2 w) 0 && eqb (rd w) 0) ≡ false → cond (eqb bit 0) (rust.jrMv w) (rust.jalrAdd w) ≡ case bit (manual.jumps w) None)
+    ((tt, kept (eqb (rs2 w) 0) (eqb (rd w) 0) _ _), λ h. rw (none-if (eqb (rd w) 0)))
     (bitsAt w 12 1) (omega arith)
 
 quadrant0 : (w f3 : ℕ) → f3 < 8 → Alike w 0 f3
@@ -158,12 +158,12 @@ wide-apart w h d =
     let s = pieces w in
     let a : manual.addi16sp w ≡ 0 = omega arith in
     let u : manual.lui w ≡ 0 = omega arith in
-    one-of (eqb (cRd w) 2) _ _ (rw (eq-eqb (manual.addi16sp w) 0 a, eq-eqb (manual.lui w) 0 u) at d)
+    one-of (eqb (rd w) 2) _ _ (rw (eq-eqb (manual.addi16sp w) 0 a, eq-eqb (manual.lui w) 0 u) at d)
 
 jumps-apart : (w : ℕ) → Apart w 2 4
 jumps-apart w h d =
-    let k = both (eqb (bitsAt w 12 1) 0 && eqb (cRs2 w) 0) (eqb (cRd w) 0) h in
-    let l = both (eqb (bitsAt w 12 1) 0) (eqb (cRs2 w) 0) (k .0) in
+    let k = both (eqb (bitsAt w 12 1) 0 && eqb (rs2 w) 0) (eqb (rd w) 0) h in
+    let l = both (eqb (bitsAt w 12 1) 0) (eqb (rs2 w) 0) (k .0) in
     some-none (rw (eqb-true (bitsAt w 12 1) 0 (l .0), l .1, k .1) at d)
 
 differ1 : (w f3 : ℕ) → f3 < 8 → Apart w 1 f3

@@ -11,7 +11,7 @@ use lib.Dec.{T, eqb}
 use borrow.Author.Tests.{ne-eqb}
 use Rattle.bits.specs.Bits.{bitsAt}
 use Rattle.bits.proofs.Every.{every, both, at, at-three, decide}
-use Rattle.decode.specs.Full.{formBy, formOf, rustWord}
+use Rattle.word.specs.Word.{formBy, formOf, rustWord}
 use Rattle.manual.specs.Words.{Format, formatBy, formatOf, manualWord, opOf}
 use Rattle.agree.specs.Differences.{wordPartsBy, wordParts}
 use Rattle.agree.proofs.Formats.{named, operands, same, same-is, apart, apart-is}

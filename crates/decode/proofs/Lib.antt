@@ -1,3 +1,2 @@
--- What follows from the definitions of the two decode calls.
+-- That each decode call has one outcome.
 pub mod Once
-pub mod Read

@@ -8,8 +8,8 @@ use lib.ListN.{length}
 use Rattle.op.specs.Record.{opRecord}
 use Rattle.op.specs.declared.Decoded.{Decoded}
 use Rattle.op.specs.declared.Decoded.the-variants.{Some, None}
-use Rattle.decode.specs.Full.{rustWord}
-use Rattle.decode.specs.Compressed.{rustHalf}
+use Rattle.word.specs.Word.{rustWord}
+use Rattle.halfword.specs.Halfword.{rustHalf}
 use Rattle.decode.specs.declared.DecodeAnswer.{DecodeAnswer}
 use Rattle.decode.specs.declared.DecodeAnswer.the-variants.{OpWritten, NoOp, WrongOpBuffer}
 

@@ -1,5 +1,2 @@
--- What the Rust reads words and halfwords as.
-pub mod Instruction
-pub mod Full
-pub mod Compressed
+-- What the two decode calls answer and leave behind.
 pub mod Call

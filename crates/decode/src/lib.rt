@@ -1,9 +1,4 @@
-// Words and halfwords to ops, as the Rust reads them, and the two public calls that decode one.
-// (decode.rs; block.rs, `decode_full` and `decode_compressed`)
-pub mod compressed;
-pub mod full;
-pub mod instruction;
-
+// The two public calls that decode a word or a halfword into a lent op record.
 ghost use mathlib.Core.Path.{_≡_};
 ghost use Rattle.decode.specs.Call.{decodeNumber, decodeCall, wordCall, halfCall};
 use op::Decoded;
@@ -46,12 +41,12 @@ fn answer(decoded: Decoded, ilen: u8, lent: &mut [u8]) -> DecodeAnswer
 pub fn decode_word(raw: u32, lent: &mut [u8]) -> DecodeAnswer
     ensures { λ r. ⌜ (decodeNumber r, now (lent .exit)) ≡ wordCall raw (now (lent .entry)) ⌝ }
 {
-    answer(full::decode_full(raw), 4, lent)
+    answer(word::decode_full(raw), 4, lent)
 }
 
 // Decodes a halfword into the lent record of sixteen bytes.
 pub fn decode_halfword(raw: u16, lent: &mut [u8]) -> DecodeAnswer
     ensures { λ r. ⌜ (decodeNumber r, now (lent .exit)) ≡ halfCall raw (now (lent .entry)) ⌝ }
 {
-    answer(compressed::decode_compressed(raw), 2, lent)
+    answer(halfword::decode_compressed(raw), 2, lent)
 }

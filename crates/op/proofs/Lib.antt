@@ -1,4 +1,5 @@
 -- Laws of ops, their kinds and their records.
+pub mod Fallback
 pub mod Numbers
 pub mod Record
 pub mod Signed

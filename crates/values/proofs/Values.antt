@@ -2,7 +2,7 @@
 -- Assumes nothing.
 use mathlib.Core.Path.{_≡_, refl}
 use mathlib.Core.List.{map}
-use Rattle.decode.specs.Full.{formBy}
+use Rattle.word.specs.Word.{formBy}
 use Rattle.values.specs.Values.{Value, read, question, answer, values}
 
 pub values-hold : map (λ (v : Value). read (question v)) values ≡ map answer values

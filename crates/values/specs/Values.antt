@@ -7,8 +7,8 @@ use Rattle.op.specs.declared.Decoded.{Decoded}
 use Rattle.op.specs.declared.Decoded.the-variants.{Some, None}
 use Rattle.op.specs.declared.Op.the-variants.{AluImm, Jalr}
 use Rattle.op.specs.declared.AluKind.the-variants.{Add, SextB}
-use Rattle.decode.specs.Full.{rustWord}
-use Rattle.decode.specs.Compressed.{rustHalf}
+use Rattle.word.specs.Word.{rustWord}
+use Rattle.halfword.specs.Halfword.{rustHalf}
 
 pub data Question : Type 0 where
   halfword word : ℕ → Question

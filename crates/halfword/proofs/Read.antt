@@ -1,0 +1,52 @@
+-- What the Rust reading of a halfword never gives: a Fallback, or an op where the low bits are 11.
+-- Assumes nothing.
+use mathlib.Core.Path.{_≡_, refl}
+use mathlib.Core.Bool.{Bool, true, false, cond}
+use Prim.Native.Nat.{ℕ, _+_, _*_}
+use native.Mathlib.Omega.{arith}
+use lib.Dec.{eqb}
+use borrow.Author.Tests.{ne-eqb}
+use Rattle.bits.specs.Bits.{bitsAt}
+use Rattle.bits.specs.Match.{case}
+use Rattle.bits.proofs.Cases.{at-any}
+use Rattle.bits.proofs.Every.{each, decide}
+use Rattle.op.specs.declared.Op.the-variants.{Fallback}
+use Rattle.op.specs.declared.Decoded.the-variants.{Some, None}
+use Rattle.op.proofs.Fallback.{Other, no-fallback, none, some}
+use Rattle.halfword.specs.Instruction.{quadrant, funct3, rd, rs2}
+use Rattle.halfword.specs.Halfword.{nzuimmAddi4spn, halfRows, halfAt, rustHalf, miscRows, primeRows, jrMv, jalrAdd}
+
+prime-other : (w k : ℕ) → Other (case k (primeRows w) None)
+prime-other w k = at-any Other k (primeRows w) ((((((tt, some refl), some refl), some refl), some refl), some refl), some refl) none
+
+misc-other : (w k : ℕ) → Other (case k (miscRows w) (case (bitsAt w 12 1 * 4 + bitsAt w 5 2) (primeRows w) None))
+misc-other w k = at-any Other k (miscRows w) (((tt, some refl), some refl), some refl) (prime-other w (bitsAt w 12 1 * 4 + bitsAt w 5 2))
+
+jumps-other : (w : ℕ) (b : Bool) → Other (cond b (jrMv w) (jalrAdd w))
+jumps-other w true = decide (rs2 w) 0 (λ e. rw e (some refl)) (λ n. rw (ne-eqb (rs2 w) 0 n) (some refl))
+jumps-other w false =
+    decide (rs2 w) 0
+    (λ e. decide (rd w) 0 (λ d. rw (e, d) none) (λ n. rw (e, ne-eqb (rd w) 0 n) (some refl)))
+    (λ n. rw (ne-eqb (rs2 w) 0 n) (some refl))
+
+addi4spn-other : (w : ℕ) → Other (halfAt 0x00 w)
+addi4spn-other w = decide (nzuimmAddi4spn w) 0 (λ e. rw e none) (λ n. rw (ne-eqb (nzuimmAddi4spn w) 0 n) (some refl))
+
+lui-other : (w : ℕ) → Other (halfAt 0x13 w)
+lui-other w = decide (rd w) 2 (λ e. rw e (some refl)) (λ n. rw (ne-eqb (rd w) 2 n) (some refl))
+
+half-other : (w key : ℕ) → Other (halfAt key w)
+half-other w key =
+    at-any Other key (halfRows w)
+    (((((((((((((((((((tt, addi4spn-other w), some refl), some refl), some refl), some refl), some refl), some refl), some refl), lui-other w), misc-other w (bitsAt w 10 2)), some refl), some refl), some refl), some refl), some refl), some refl), jumps-other w (eqb (bitsAt w 12 1) 0)), some refl), some refl)
+    none
+
+pub half-no-fallback : (w raw : ℕ) → rustHalf w ≡ Some (Fallback raw) → ⊥
+half-no-fallback w raw = no-fallback (rustHalf w) raw (half-other w (quadrant w * 0x10 + funct3 w))
+
+pub half-low : (w : ℕ) → bitsAt w 0 2 ≡ 3 → rustHalf w ≡ None
+half-low w h =
+    rw h
+    (each 8 (λ f3. halfAt (3 * 0x10 + f3) w ≡ None)
+    ((((((((tt, refl), refl), refl), refl), refl), refl), refl), refl)
+    (funct3 w) (omega arith))

@@ -1,0 +1,3 @@
+-- What the Rust reads a halfword as.
+pub mod Instruction
+pub mod Halfword

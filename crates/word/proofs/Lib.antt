@@ -1,0 +1,2 @@
+-- What follows from the Rust reading of words.
+pub mod Read

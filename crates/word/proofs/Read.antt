@@ -1,0 +1,76 @@
+-- What the Rust reading of a word never gives: a Fallback, or an op where the low bits are not 11.
+-- Assumes nothing.
+use mathlib.Core.Path.{_≡_, refl}
+use mathlib.Core.Bool.{Bool, true, false, _||_}
+use Prim.Native.Nat.{ℕ, _%_}
+use native.Mathlib.Omega.{arith}
+use lib.Dec.{T, eqb}
+use borrow.Author.Tests.{ne-eqb}
+use Rattle.bits.specs.Bits.{bitsAt}
+use Rattle.bits.proofs.Every.{every, at}
+use Rattle.op.specs.declared.Op.the-variants.{Fallback}
+use Rattle.op.specs.declared.Decoded.the-variants.{Some, None}
+use Rattle.op.proofs.Fallback.{Other, no-fallback, none, some}
+use Rattle.word.specs.Instruction.{opcode, funct3, funct7, rs2}
+use Rattle.word.specs.Word.{formBy, formOf, opOf, rustWord}
+use Rattle.word.specs.declared.Form.{Form}
+use Rattle.word.specs.declared.Form.the-variants.{NoForm, Lui, Auipc, Jal, Jalr, Branch, Load, Store, Imm, Shift6, Shift5, Unary, Reg}
+
+form-other : (w : ℕ) (f : Form) → Other (opOf w f)
+form-other w NoForm = none
+form-other w Lui = some refl
+form-other w Auipc = some refl
+form-other w Jal = some refl
+form-other w Jalr = some refl
+form-other w (Branch k) = some refl
+form-other w (Load k) = some refl
+form-other w (Store k) = some refl
+form-other w (Imm k) = some refl
+form-other w (Shift6 k) = some refl
+form-other w (Shift5 k) = some refl
+form-other w (Unary k) = some refl
+form-other w (Reg k) = some refl
+
+pub word-no-fallback : (w raw : ℕ) → rustWord w ≡ Some (Fallback raw) → ⊥
+word-no-fallback w raw = no-fallback (rustWord w) raw (form-other w (formOf w))
+
+abbrev blank : Form → Bool
+blank NoForm = true
+blank Lui = false
+blank Auipc = false
+blank Jal = false
+blank Jalr = false
+blank (Branch k) = false
+blank (Load k) = false
+blank (Store k) = false
+blank (Imm k) = false
+blank (Shift6 k) = false
+blank (Shift5 k) = false
+blank (Unary k) = false
+blank (Reg k) = false
+
+blank-is : (w : ℕ) (f : Form) → T (blank f) → opOf w f ≡ None
+blank-is w NoForm t = refl
+blank-is w Lui t = absurd t
+blank-is w Auipc t = absurd t
+blank-is w Jal t = absurd t
+blank-is w Jalr t = absurd t
+blank-is w (Branch k) t = absurd t
+blank-is w (Load k) t = absurd t
+blank-is w (Store k) t = absurd t
+blank-is w (Imm k) t = absurd t
+blank-is w (Shift6 k) t = absurd t
+blank-is w (Shift5 k) t = absurd t
+blank-is w (Unary k) t = absurd t
+blank-is w (Reg k) t = absurd t
+
+blanks : (f3 f7 r2 : ℕ) → T (every 128 (λ op. eqb (op % 4) 3 || blank (formBy op f3 f7 r2)))
+unfolding formBy
+blanks f3 f7 r2 = tt
+
+pub word-low : (w : ℕ) → (bitsAt w 0 2 ≡ 3 → ⊥) → rustWord w ≡ None
+word-low w h =
+    let n : opcode w % 4 ≡ 3 → ⊥ = λ e. h (omega arith) in
+    blank-is w (formOf w)
+    (rw (ne-eqb (opcode w % 4) 3 n) at
+    (at 128 (λ op. eqb (op % 4) 3 || blank (formBy op (funct3 w) (funct7 w) (rs2 w))) (blanks (funct3 w) (funct7 w) (rs2 w)) (opcode w) (omega arith)))

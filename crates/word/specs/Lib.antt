@@ -1,0 +1,3 @@
+-- What the Rust reads a word as.
+pub mod Instruction
+pub mod Word
