@@ -1,5 +1,8 @@
 -- `decode::decode_word` meets its contract: what was decoded is the definition's.
 -- Assumes nothing.
+use mathlib.Core.Path.{ap, _∙_}
+use Rattle.op.specs.declared.Decoded.{Decoded}
+use Rattle.decode.specs.Call.{decodeCall}
 use borrow.Author.Needs.{needs}
 use Rattle.decode.proofs.decode_word.Statement.{statement}
 use Rattle.decode.proofs.decode_word.Tie as tie
@@ -9,4 +12,6 @@ decode-word-spec =
     tie.close
     (tie.spec
     (λ c κs. search needs) (λ c κs. search needs) (λ c. search needs)
-    (λ c. rw (← c .before .before .before .before .decode-full .ensures) (c .before .before .answer .ensures)))
+    (λ c.
+    let start = c .before .before .before .before .before .before in
+    c .before .before .answer .ensures ∙ ap (λ (d : Decoded). decodeCall d 4 (start .args .lent .now)) (c .before .before .before .before .decode-full .ensures)))
