@@ -10,14 +10,10 @@ use Rattle.alu.specs.declared.KindAt.the-variants.{Known, Unknown}
 use Rattle.alu.specs.declared.AluAnswer.{AluAnswer}
 use Rattle.alu.specs.declared.AluAnswer.the-variants.{Computed, NoKind}
 
--- an answer's number and value
-abbrev pub numberOf : AluAnswer → ℕ
-numberOf (Computed v) = 0
-numberOf NoKind = 7
-
-abbrev pub valueOf : AluAnswer → ℕ
-valueOf (Computed v) = v
-valueOf NoKind = 0
+-- an answer's number, and the value beside it
+abbrev pub answered : AluAnswer → ℕ × ℕ
+answered (Computed v) = (0, v)
+answered NoKind = (7, 0)
 
 -- the kind at a position of the Rust enum
 abbrev pub kindAt : ℕ → KindAt
@@ -27,6 +23,6 @@ abbrev pub answerOf : KindAt → ℕ → ℕ → AluAnswer
 answerOf (Known kind) a b = rustAlu kind a b
 answerOf Unknown a b = NoKind
 
--- number and value for a kind's number and two operands
+-- number and value of the call, whatever the kind's number
 abbrev pub aluCall : ℕ → ℕ → ℕ → ℕ × ℕ
-aluCall n a b = (numberOf (answerOf (kindAt n) a b), valueOf (answerOf (kindAt n) a b))
+aluCall n a b = answered (answerOf (kindAt n) a b)

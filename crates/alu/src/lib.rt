@@ -9,7 +9,7 @@ ghost use mathlib.Core.Path.{_≡_};
 ghost use Prim.Native.Nat.{_-_, _%_, _^_, _≤_, min, max};
 ghost use Rattle.bits.specs.Bits.{signed};
 ghost use Rattle.alu.specs.Rust.{widen, less, rotl, swapped, spread, orced, rustAlu};
-ghost use Rattle.alu.specs.Call.{numberOf, valueOf, kindAt, aluCall};
+ghost use Rattle.alu.specs.Call.{answered, kindAt, aluCall};
 
 pub enum AluAnswer {
     Computed(u64),
@@ -268,7 +268,7 @@ fn kind_at(n: u64) -> KindAt
 
 // The call on a kind's number.
 pub fn alu_call(kind: u64, lhs: u64, rhs: u64) -> AluAnswer
-    ensures { λ r. ⌜ (numberOf r, valueOf r) ≡ aluCall kind lhs rhs ⌝ }
+    ensures { λ r. ⌜ answered r ≡ aluCall kind lhs rhs ⌝ }
 {
     let KindAt::Known(known) = kind_at(kind) else {
         return NoKind;
