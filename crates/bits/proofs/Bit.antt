@@ -4,10 +4,11 @@ use mathlib.Core.Path.{_≡_, refl, sym, ap, ap₂, _∙_, subst}
 use mathlib.Core.Logic.{_⊎_, inl, inr}
 use Prim.Native.Nat.{ℕ, zero, suc, _+_, _-_, _*_, _/_, _%_, _^_, _≤_, _<_, min, max}
 use native.Mathlib.Omega.{arith}
-use native.Mathlib.Nat.{mod-lt, mod-eq-of-lt, zero-lt-suc, pow-suc, div-eq-of-lt, mul-assoc, lt-of-lt-of-le, lt-of-not-le}
+use native.Mathlib.Nat.{mod-lt, mod-eq-of-lt, zero-lt-suc, pow-suc, pow-succ', div-eq-of-lt, mul-assoc, lt-of-lt-of-le, lt-of-not-le}
 use native.Mathlib.Numerals.{one-add}
 use native.Mathlib.Decide.{decLe}
-use lib.Arith.{lt-one, digits-mod}
+use lib.Arith.{lt-one, digits-lt, digits-mod}
+use lib.Dec.{lit<}
 use lib.Pow.{pow-pos, pow-mono, pow-add, split, field, mod-mod-pow, shr-shr, shr-lt, shl-shr}
 use lib.Bits.{bitAnd, bitOr, bitXor, differ, and-step, or-step, xor-step, and-shr, or-shr, xor-shr, shifted-even}
 use Rattle.bits.specs.Bits.{bit, word}
@@ -56,6 +57,11 @@ unfolding word
 word-same zero f g e = refl
 word-same (suc n) f g e = ap₂ (λ (p q : ℕ). p * 2 ^ n + q) (e n (omega arith)) (word-same n f g (λ i h. e i (omega arith)))
 
+pub word-lt : (n : ℕ) (f : ℕ → ℕ) → ((i : ℕ) → f i < 2) → word n f < 2 ^ n
+unfolding word
+word-lt zero f h = lit< tt
+word-lt (suc n) f h = subst (λ (m : ℕ). f n * 2 ^ n + word n f < m) (sym (pow-succ' 2 n)) (digits-lt (h n) (word-lt n f h))
+
 pub bit-shr : (x s i : ℕ) → bit (x / 2 ^ s) i ≡ bit x (s + i)
 bit-shr x s i = ap (λ (y : ℕ). y % 2) (shr-shr x s i)
 
@@ -102,7 +108,7 @@ bit-xor a b i =
     bit-op bitXor differ xor-shr xor-step (λ x y p q. omega (arith, differ-sum x y p q)) a b i
     ∙ differ-sum (bit a i) (bit b i) (bit-lt a i) (bit-lt b i)
 
-bit-suc : (x i : ℕ) → bit x (suc i) ≡ bit (x / 2) i
+pub bit-suc : (x i : ℕ) → bit x (suc i) ≡ bit (x / 2) i
 bit-suc x i = ap (λ (m : ℕ). bit x m) (sym (one-add i)) ∙ sym (bit-shr x 1 i)
 
 -- x and y have every bit once between them

@@ -11,7 +11,7 @@ use lib.Dec.{ltb}
 use lib.Bits.{bitOr, or-shifted, or-lt}
 use lib.Pow.{pow-pos, pow-mono, mod-pow-add, shl-shr, shr-lt, shr-le}
 use Rattle.bits.specs.Bits.{bit, word}
-use Rattle.bits.proofs.Bit.{lt-or-ge, bit-mod, bit-above, by-bits, bit-shr, bit-shl, bit-shl-low, bit-or}
+use Rattle.bits.proofs.Bit.{lt-or-ge, bit-mod, bit-above, by-bits, word-same, bit-shr, bit-shl, bit-shl-low, bit-or}
 
 -- a test that is known, under `cond`
 pub picked : {A : Type 0} (x n : ℕ) (p q r : A) → (x < n → r ≡ p) → (n ≤ x → r ≡ q) → r ≡ cond (ltb x n) p q
@@ -65,7 +65,7 @@ module _ (n x s : ℕ) (hs : s ≤ n) (hx : x < 2 ^ n) where
       ∙ or-shifted (x % 2 ^ (n - s)) s (x / 2 ^ (n - s)) around
       ∙ ap (λ (y : ℕ). y + x / 2 ^ (n - s)) (sym kept)
 
-  turned-lt : turned n x s < 2 ^ n
+  pub turned-lt : turned n x s < 2 ^ n
   turned-lt =
       subst (λ (y : ℕ). y < 2 ^ n) turned-or
       (or-lt n ((x * 2 ^ s) % 2 ^ n) (x / 2 ^ (n - s)) (mod-lt (x * 2 ^ s) (pow-pos n)) (omega (arith, shr-le x (n - s))))
@@ -110,3 +110,10 @@ module _ (n x s : ℕ) (hs : s ≤ n) (hx : x < 2 ^ n) where
       by : (s < n) ⊎ (n ≤ s) → x ≡ turned n x s
       by (inl k) = sym (none (sym (mod-eq-of-lt k) ∙ e))
       by (inr k) = sym (all (omega arith))
+
+-- to the right by s is to the left by the rest
+pub turned-back-bits : (n x s : ℕ) → s ≤ n → x < 2 ^ n → turned n x (n - s) ≡ word n (λ i. bit x ((i + s) % n))
+turned-back-bits n x s hs hx =
+    let rest : n - (n - s) ≡ s = omega arith in
+    turned-bits n x (n - s) (omega arith) hx
+    ∙ word-same n (λ i. bit x ((i + (n - (n - s))) % n)) (λ i. bit x ((i + s) % n)) (λ i h. ap (λ (m : ℕ). bit x ((i + m) % n)) rest)

@@ -3,13 +3,13 @@
 use mathlib.Core.Path.{_≡_, refl, sym, ap, _∙_}
 use mathlib.Core.Logic.{_⊎_, inl, inr}
 use mathlib.Core.Bool.{Bool, true, false, cond}
-use Prim.Native.Nat.{ℕ, suc, _+_, _-_, _*_, _/_, _%_, _^_, _≤_, _<_, min}
+use Prim.Native.Nat.{ℕ, zero, suc, _+_, _-_, _*_, _/_, _%_, _^_, _≤_, _<_, min}
 use native.Mathlib.Omega.{arith}
 use native.Mathlib.Nat.{mod-eq-of-lt, add-mod-right, mod-eq-sub-mod, pow-suc, min-eq-left, min-eq-right, lt-of-le-of-lt, div-eq-of-lt-le}
 use borrow.Author.Tests.{lt-ltb, le-ltb}
 use lib.Dec.{ltb}
-use lib.IntN.{ℤ, pos, negsuc}
-use lib.Signed.{shrZ, mag-shr}
+use lib.IntN.{ℤ, pos, negsuc, _-ℤ_}
+use lib.Signed.{mag, shrZ, mag-shr}
 use lib.Pow.{shr-le, ones-sub-lt}
 use mir.Syntax.{w64}
 use mir.Val.{SFits, toZ, ofZ, sel}
@@ -17,11 +17,26 @@ use mir.Facts.{toZ-ofZ}
 use Rattle.bits.specs.Bits.{bit, word, signed}
 use Rattle.bits.proofs.Bit.{lt-or-ge, bit-lt, bit-above, bit-top, by-bits, bit-shr, bit-not}
 
+pub half : (n : ℕ) → 2 ^ suc n / 2 ≡ 2 ^ n
+half n = let p = pow-suc 2 n in omega arith
+
 pub signed-low : (n v : ℕ) → v < 2 ^ n / 2 → signed n v ≡ pos v
 signed-low n v h = ap (λ (t : Bool). cond t (pos v) (negsuc (2 ^ n - suc v))) (lt-ltb v (2 ^ n / 2) h)
 
 pub signed-high : (n v : ℕ) → 2 ^ n / 2 ≤ v → signed n v ≡ negsuc (2 ^ n - suc v)
 signed-high n v h = ap (λ (t : Bool). cond t (pos v) (negsuc (2 ^ n - suc v))) (le-ltb v (2 ^ n / 2) h)
+
+pub signed-mag : (n v : ℕ) → v < 2 ^ n → mag (signed n v) < 2 ^ n
+signed-mag n v h = by (ltb v (2 ^ n / 2))
+  where
+    by : (t : Bool) → mag (cond t (pos v) (negsuc (2 ^ n - suc v))) < 2 ^ n
+    by true = h
+    by false = omega arith
+
+-- a difference that is not below zero
+pub not-below-zero : (a b : ℕ) → b ≤ a → pos a -ℤ pos b ≡ pos (a - b)
+not-below-zero a zero h = ap pos (omega arith)
+not-below-zero a (suc k) h = rw (le-ltb a (suc k) h)
 
 -- the machine's reading of 64 bits
 pub toZ-signed : (x : ℕ) → toZ w64 x ≡ signed 64 x
@@ -54,9 +69,6 @@ wrapped n r a b hr hb e = by (lt-or-ge (r + b) (2 ^ n))
 
 -- n + 1 bits, the sign copied from above
 module _ (n x : ℕ) (hx : x < 2 ^ suc n) where
-  half : 2 ^ suc n / 2 ≡ 2 ^ n
-  half = let p = pow-suc 2 n in omega arith
-
   -- all bits turned
   abbrev y : ℕ
   y = (2 ^ suc n - 1) - x
@@ -102,14 +114,14 @@ module _ (n x : ℕ) (hx : x < 2 ^ suc n) where
 
       by : (x < 2 ^ n) ⊎ (2 ^ n ≤ x) → shrZ (signed (suc n) x) (2 ^ s) ≡ signed (suc n) (word (suc n) (λ i. bit x (min (s + i) n)))
       by (inl k) =
-          ap (λ (z : ℤ). shrZ z (2 ^ s)) (signed-low (suc n) x (omega (arith, half)))
-          ∙ sym (signed-low (suc n) (x / 2 ^ s) (omega (arith, half, shr-le x s)))
+          ap (λ (z : ℤ). shrZ z (2 ^ s)) (signed-low (suc n) x (omega (arith, half n)))
+          ∙ sym (signed-low (suc n) (x / 2 ^ s) (omega (arith, half n, shr-le x s)))
           ∙ ap (signed (suc n)) (low k)
       by (inr k) =
           let q = shr-le y s in
           let e : 2 ^ suc n - suc x ≡ y = omega arith in
           let f : y / 2 ^ s ≡ 2 ^ suc n - suc ((2 ^ suc n - 1) - y / 2 ^ s) = omega arith in
-          ap (λ (z : ℤ). shrZ z (2 ^ s)) (signed-high (suc n) x (omega (arith, half)) ∙ ap negsuc e)
+          ap (λ (z : ℤ). shrZ z (2 ^ s)) (signed-high (suc n) x (omega (arith, half n)) ∙ ap negsuc e)
           ∙ ap negsuc f
-          ∙ sym (signed-high (suc n) ((2 ^ suc n - 1) - y / 2 ^ s) (omega (arith, half, pow-suc 2 n)))
+          ∙ sym (signed-high (suc n) ((2 ^ suc n - 1) - y / 2 ^ s) (omega (arith, half n, pow-suc 2 n)))
           ∙ ap (signed (suc n)) (high k)

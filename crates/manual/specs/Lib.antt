@@ -1,0 +1,2 @@
+-- The manual's own reading, from its prose and figures.
+pub mod Alu
