@@ -1,18 +1,16 @@
 -- Signed values, sign extension and the word kinds: the manual's weights and the Rust's casts read the same numbers.
 -- Assumes nothing.
-use mathlib.Core.Path.{_≡_, refl, sym, ap, ap₂, _∙_, subst}
+use mathlib.Core.Path.{_≡_, sym, ap, ap₂, _∙_}
 use mathlib.Core.Logic.{_⊎_, inl, inr}
-use mathlib.Core.Bool.{Bool, true, false, cond}
-use Prim.Native.Nat.{ℕ, zero, suc, _+_, _-_, _*_, _/_, _%_, _^_, _≤_, _<_, min}
+use Prim.Native.Nat.{ℕ, suc, _+_, _-_, _*_, _/_, _%_, _^_, _≤_, _<_, min}
 use native.Mathlib.Omega.{arith}
-use native.Mathlib.Nat.{mod-lt, mod-eq-of-lt, mod-add-mod, add-mod, pow-suc, mul-add-mod-self-right, zero-mul, one-mul, zero-add, add-zero, lt-of-lt-of-le}
+use native.Mathlib.Nat.{mod-lt, mod-eq-of-lt, mod-add-mod, add-mod, pow-suc, mul-add-mod-self-right, zero-mul, one-mul, zero-add, lt-of-lt-of-le}
 use native.Mathlib.Numerals.{one-add}
-use lib.Dec.{ltb, lit<, lit≤}
+use lib.Dec.{lit<}
 use lib.IntN.{ℤ, pos, negsuc, _-ℤ_}
 use lib.Signed.{ltZ, shrZ, mag}
 use lib.Pow.{pow-pos, pow-mono, mod-pow-add, mod-mod-pow, split, shr-lt}
-use mir.Val.{boolByte}
-use Rattle.bits.specs.Bits.{bit, word, signed}
+use Rattle.bits.specs.Bits.{bit, signed}
 use Rattle.bits.proofs.Bit.{lt-or-ge, bit-lt, bit-mod, word-lt, word-same}
 use Rattle.bits.proofs.Sign.{below-zero}
 use Rattle.bits.proofs.Signed.{half, signed-low, signed-high, signed-mag, signed-shr, not-below-zero}

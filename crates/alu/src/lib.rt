@@ -1,19 +1,25 @@
-// The ALU of the Rust without multiply and divide: by kind, and by the number of a kind. (block.rs, `alu`)
-use op::{AluKind, bits_of};
+// The ALU without multiply and divide: by a kind, and by a kind's number. (block.rs, `alu`)
+// The helpers stand for what Rust has as casts and methods: a cast here loses no bit, and numbers have no methods.
+use AluAnswer::Computed;
+use AluAnswer::NoKind;
+use KindAt::Known;
+use KindAt::Unknown;
 use bits::sign_extend;
-use std::num::{wrapping_add_u32, wrapping_add_u64, wrapping_sub_u32, wrapping_sub_u64};
-use AluAnswer::{Computed, NoKind};
-use KindAt::{Known, Unknown};
-
+use op::AluKind;
+use op::bits_of;
+use std::num::wrapping_add_u32;
+use std::num::wrapping_add_u64;
+use std::num::wrapping_sub_u32;
+use std::num::wrapping_sub_u64;
 ghost use mathlib.Core.Path.{_≡_};
 ghost use Prim.Native.Nat.{_-_, _%_, _^_, _≤_, min, max};
 ghost use Rattle.bits.specs.Bits.{signed};
 ghost use Rattle.alu.specs.Rust.{widen, less, rotl, swapped, spread, orced, rustAlu};
 ghost use Rattle.alu.specs.Call.{answered, kindAt, aluCall};
 
+// What comes of an ALU call: a value, or that the kind is not taken.
 pub enum AluAnswer {
     Computed(u64),
-    // Multiply, divide, and numbers that are no kind's.
     NoKind,
 }
 
@@ -33,7 +39,7 @@ fn widen(x: u32) -> u64
     bits_of(sign_extend(x as u64, 32))
 }
 
-// `x as i64`
+// `x as i64`; a number with the top bit set goes by its complement, which fits.
 fn as_i64(x: u64) -> i64
     ensures { λ r. ⌜ r ≡ signed 64 x ⌝ }
 {
@@ -65,6 +71,7 @@ fn max(a: u64, b: u64) -> u64
     if a < b { b } else { a }
 }
 
+// `x.rotate_left(s)`, and below `x.rotate_right(s)`, for u64 and u32
 fn rotate_left(x: u64, s: u64) -> u64
     requires { ⌜ s ≤ 64 ⌝ }
     ensures { λ r. ⌜ r ≡ rotl 64 x s ⌝ }
@@ -101,23 +108,25 @@ fn rotate_right_word(x: u32, s: u64) -> u32
     rotate_left_word(x, 32 - s)
 }
 
+// `x.swap_bytes()`
 fn swap_bytes(x: u64) -> u64
     ensures { λ r. ⌜ r ≡ swapped x 8 ⌝ }
 {
     let mut r: u64 = 0;
-    for i in 0..8u64 {
-        r = (r << 8) | ((x >> (i * 8)) & 0xff);
+    for at in 0..8u64 {
+        r = (r << 8) | ((x >> (at * 8)) & 0xff);
     }
     r
 }
 
-// All ones for a byte with a bit set.
+// `if byte != 0 { 0xFF } else { 0x00 }`
 fn spread(byte: u64) -> u64
     ensures { λ r. ⌜ r ≡ spread byte ⌝ }
 {
     if byte != 0 { 0xff } else { 0 }
 }
 
+// The loop of OrcB.
 fn orc_b(x: u64) -> u64
     ensures { λ r. ⌜ r ≡ orced x 8 ⌝ }
 {
@@ -194,12 +203,12 @@ pub fn alu(kind: AluKind, lhs: u64, rhs: u64) -> AluAnswer
     }
 }
 
-pub enum KindAt {
+enum KindAt {
     Known(AluKind),
     Unknown,
 }
 
-// The kind at a position of the enum.
+// The kind at a position of the enum, from 0.
 fn kind_at(n: u64) -> KindAt
     ensures { λ r. ⌜ r ≡ kindAt n ⌝ }
 {
@@ -266,7 +275,7 @@ fn kind_at(n: u64) -> KindAt
     }
 }
 
-// The call on a kind's number.
+// The public call: any number, also one that is no kind's.
 pub fn alu_call(kind: u64, lhs: u64, rhs: u64) -> AluAnswer
     ensures { λ r. ⌜ answered r ≡ aluCall kind lhs rhs ⌝ }
 {

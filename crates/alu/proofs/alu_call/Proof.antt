@@ -1,6 +1,6 @@
 -- `alu::alu_call` meets its contract: the kind at the number, and its answer.
 -- Assumes nothing.
-use mathlib.Core.Path.{_≡_, sym, ap, _∙_}
+use mathlib.Core.Path.{sym, ap, _∙_}
 use borrow.Author.Needs.{needs}
 use Rattle.alu.specs.Call.{answered, answerOf}
 use Rattle.alu.specs.declared.KindAt.{KindAt}

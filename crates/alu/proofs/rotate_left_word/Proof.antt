@@ -1,6 +1,5 @@
 -- `alu::rotate_left_word` meets its contract: the two parts share no bit.
 -- Assumes nothing.
-use native.Mathlib.Omega.{arith}
 use borrow.Author.Needs.{needs}
 use Rattle.bits.proofs.Shift.{turned-or, turned-still}
 use Rattle.alu.proofs.rotate_left_word.Statement.{statement}
