@@ -4,13 +4,13 @@ use mathlib.Core.Path.{_≡_, refl, sym, ap, ap₂, _∙_, subst}
 use mathlib.Core.Logic.{_⊎_, inl, inr}
 use Prim.Native.Nat.{ℕ, zero, suc, _+_, _-_, _*_, _/_, _%_, _^_, _≤_, _<_, min, max}
 use native.Mathlib.Omega.{arith}
-use native.Mathlib.Nat.{mod-lt, mod-eq-of-lt, zero-lt-suc, pow-suc, pow-succ', div-eq-of-lt, mul-assoc, lt-of-lt-of-le, lt-of-not-le}
+use native.Mathlib.Nat.{mod-lt, mod-eq-of-lt, zero-lt-suc, pow-suc, pow-succ', div-eq-of-lt, mul-assoc, lt-of-le-of-lt, lt-of-lt-of-le, lt-of-not-le}
 use native.Mathlib.Numerals.{one-add}
 use native.Mathlib.Decide.{decLe}
 use lib.Arith.{lt-one, digits-lt, digits-mod}
-use lib.Dec.{lit<}
+use lib.Dec.{T, ltb, lit<}
 use lib.Pow.{pow-pos, pow-mono, pow-add, split, field, mod-mod-pow, shr-shr, shr-lt, shl-shr}
-use lib.Bits.{bitAnd, bitOr, bitXor, differ, and-step, or-step, xor-step, and-shr, or-shr, xor-shr, shifted-even}
+use lib.Bits.{bitAnd, bitOr, bitXor, differ, and-step, or-step, xor-step, and-shr, or-shr, xor-shr, shifted-even, and-le-r}
 use Rattle.bits.specs.Bits.{bit, word}
 
 pub lt-or-ge : (a b : ℕ) → (a < b) ⊎ (b ≤ a)
@@ -94,6 +94,10 @@ module _ (op f : ℕ → ℕ → ℕ)
 
 pub bit-and : (a b i : ℕ) → bit (bitAnd a b) i ≡ min (bit a i) (bit b i)
 bit-and = bit-op bitAnd min and-shr and-step (λ x y p q. omega arith)
+
+-- what a mask leaves is below any number that the mask is below
+pub masked-lt : {m : ℕ} (a mask : ℕ) → T (ltb mask m) → bitAnd a mask < m
+masked-lt a mask t = lt-of-le-of-lt (and-le-r a mask) (lit< t)
 
 pub bit-or : (a b i : ℕ) → bit (bitOr a b) i ≡ max (bit a i) (bit b i)
 bit-or = bit-op bitOr max or-shr or-step (λ x y p q. omega arith)

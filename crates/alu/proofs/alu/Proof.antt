@@ -1,13 +1,14 @@
 -- `alu::alu` meets its contract: each arm is told its kind, and its calls say the Rust's operators.
 -- Assumes nothing.
 use mathlib.Core.Path.{_≡_, ap, _∙_}
+use native.Mathlib.Nat.{le-of-lt}
 use native.Mathlib.Omega.{arith}
 use borrow.Author.Needs.{needs}
-use lib.Bits.{mask-lt}
 use lib.Count.{leading-le, trailing-le, ones-le}
 use mir.Syntax.{w64}
 use mir.Val.{SFits}
 use mir.Facts.{toZ-ofZ}
+use Rattle.bits.proofs.Bit.{masked-lt}
 use Rattle.bits.proofs.Signed.{shr-back, wrapped}
 use Rattle.op.specs.Record.{bits64}
 use Rattle.alu.specs.Rust.{minus}
@@ -19,25 +20,20 @@ pub alu-spec : {M : Type 1} → statement M
 alu-spec =
     tie.close
     (tie.spec
+    (λ c. search needs) (λ c κs. search needs) (λ c. search needs) (λ c κs. search needs) (λ c. search needs) (λ c. search masked-lt) (λ c. search needs)
+    (λ c κs. search needs) (λ c. search needs) (λ c. search needs) (λ c. search needs) (λ c. search needs) (λ c. search needs) (λ c. search masked-lt)
+    (λ c. search needs) (λ c κs. search needs) (λ c. record { sfits = search masked-lt }) (λ c. search masked-lt) (λ c κs. search needs)
+    (λ c. search needs) (λ c. search needs) (λ c. search needs) (λ c κs. search needs) (λ c κs. search needs) (λ c κs. search needs) (λ c κs. search needs)
+    (λ c. search needs) (λ c κs. search needs) (λ c κs. search needs) (λ c κs. search needs) (λ c κs. search needs) (λ c. search needs)
+    (λ c κs. search needs) (λ c. record { fits = search masked-lt }) (λ c. search masked-lt) (λ c κs. search needs) (λ c. search needs)
+    (λ c κs. search needs) (λ c. record { fits = search masked-lt }) (λ c. search masked-lt) (λ c κs. search needs) (λ c. search needs)
+    (λ c κs. search needs) (λ c. record { sfits = search masked-lt }) (λ c. search masked-lt) (λ c κs. search needs) (λ c. search needs)
+    (λ c. search needs) (λ c. search needs) (λ c. search needs) (λ c. search needs) (λ c. search needs) (λ c. search needs) (λ c. search needs)
+    (λ c. search needs) (λ c. search needs) (λ c. search needs) (λ c. search needs) (λ c. search needs) (λ c. search needs) (λ c. search needs)
+    (λ c. search needs) (λ c. search needs) (λ c κs. search (le-of-lt, masked-lt)) (λ c. search needs) (λ c κs. search (le-of-lt, masked-lt))
+    (λ c. search needs) (λ c κs. search needs) (λ c κs. search (le-of-lt, masked-lt)) (λ c κs. search needs) (λ c. search needs) (λ c κs. search needs)
+    (λ c κs. search (le-of-lt, masked-lt)) (λ c κs. search needs) (λ c. search needs) (λ c κs. search needs) (λ c. search needs) (λ c κs. search needs)
     (λ c. search needs) (λ c κs. search needs) (λ c. search needs) (λ c κs. search needs) (λ c. search needs)
-    (λ c. mask-lt (c .before .before .args .rhs) 6) (λ c. search needs) (λ c κs. search needs) (λ c. search needs) (λ c. search needs) (λ c. search needs)
-    (λ c. search needs) (λ c. search needs) (λ c. mask-lt (c .before .before .args .rhs) 6) (λ c. search needs) (λ c κs. search needs)
-    (λ c. record { sfits = omega (arith, mask-lt (c .before .before .before .args .rhs) 6) }) (λ c. mask-lt (c .before .before .before .args .rhs) 6)
-    (λ c κs. search needs) (λ c. search needs) (λ c. search needs) (λ c. search needs) (λ c κs. search needs) (λ c κs. search needs) (λ c κs. search needs)
-    (λ c κs. search needs) (λ c. search needs) (λ c κs. search needs) (λ c κs. search needs) (λ c κs. search needs) (λ c κs. search needs)
-    (λ c. search needs) (λ c κs. search needs) (λ c. record { fits = omega (arith, mask-lt (c .before .before .before .args .rhs) 5) })
-    (λ c. mask-lt (c .before .before .before .args .rhs) 5) (λ c κs. search needs) (λ c. search needs) (λ c κs. search needs)
-    (λ c. record { fits = omega (arith, mask-lt (c .before .before .before .args .rhs) 5) }) (λ c. mask-lt (c .before .before .before .args .rhs) 5)
-    (λ c κs. search needs) (λ c. search needs) (λ c κs. search needs)
-    (λ c. record { sfits = omega (arith, mask-lt (c .before .before .before .args .rhs) 5) })
-    (λ c. omega (arith, mask-lt (c .before .before .before .args .rhs) 5)) (λ c κs. search needs) (λ c. search needs) (λ c. search needs)
-    (λ c. search needs) (λ c. search needs) (λ c. search needs) (λ c. search needs) (λ c. search needs) (λ c. search needs) (λ c. search needs)
-    (λ c. search needs) (λ c. search needs) (λ c. search needs) (λ c. search needs) (λ c. search needs) (λ c. search needs) (λ c. search needs)
-    (λ c. search needs) (λ c κs. omega (arith, mask-lt (c .before .before .args .rhs) 6)) (λ c. search needs)
-    (λ c κs. omega (arith, mask-lt (c .before .before .args .rhs) 6)) (λ c. search needs) (λ c κs. search needs)
-    (λ c κs. omega (arith, mask-lt (c .before .before .before .args .rhs) 5)) (λ c κs. search needs) (λ c. search needs) (λ c κs. search needs)
-    (λ c κs. omega (arith, mask-lt (c .before .before .before .args .rhs) 5)) (λ c κs. search needs) (λ c. search needs) (λ c κs. search needs)
-    (λ c. search needs) (λ c κs. search needs) (λ c. search needs) (λ c κs. search needs) (λ c. search needs) (λ c κs. search needs) (λ c. search needs)
     (λ c. omega (arith, leading-le 64 (c .before .before .args .lhs))) (λ c. search needs)
     (λ c. omega (arith, trailing-le 64 (c .before .before .args .lhs))) (λ c. search needs)
     (λ c. omega (arith, ones-le 64 (c .before .before .args .lhs) (c .before .before .fits .lhs .fits))) (λ c. search needs) (λ c κs. search needs)
@@ -47,7 +43,7 @@ alu-spec =
     (λ c κs. search needs) (λ c. search needs) (λ c κs. search needs) (λ c κs. search needs) (λ c. search needs) (λ c. search needs) (λ c κs. search needs)
     (λ c. search needs) (λ c κs. search needs) (λ c. search needs) (λ c κs. search needs) (λ c. search needs) (λ c κs. search needs) (λ c. search needs)
     (λ c κs. search needs) (λ c. search needs) (λ c κs. search needs) (λ c. search needs) (λ c κs. search needs) (λ c. search needs) (λ c κs. search needs)
-    (λ c. search needs) (λ c. mask-lt (c .before .before .args .rhs) 6) (λ c. search needs) (λ c κs. search needs)
+    (λ c. search needs) (λ c. search masked-lt) (λ c. search needs) (λ c κs. search needs)
     -- Add
     (λ c. rw (c .before .enum-told .given .1, c .wrapping-add-u64 .ensures))
     -- Sub
