@@ -66,42 +66,42 @@ pub ror-is : (a b : ℕ) → a < 2 ^ 64 → rotl 64 a (64 - bitAnd b 0x3f) ≡ t
 ror-is a b ha = ap (λ (s : ℕ). rotl 64 a (64 - s)) (and-mask b 6) ∙ turned-back-bits 64 a (b % 2 ^ 6) (omega arith) ha
 
 -- a word kind whose result has 32 bits in both readings
-whole-word : (r x : ℕ) → r < 2 ^ 32 → r ≡ x → widen r ≡ extended 32 x
+whole-word : (r x : ℕ) → r < 2 ^ 32 → r ≡ x → widen 32 r ≡ extended 32 x
 whole-word r x h e = word-kind r x (sym (mod-eq-of-lt h) ∙ ap (λ (y : ℕ). y % 2 ^ 32) e)
 
-pub sllw-is : (a b : ℕ) → widen ((asU32 a * 2 ^ bitAnd b 0x1f) % 2 ^ 32) ≡ extended 32 (left 32 a (b % 2 ^ 5))
+pub sllw-is : (a b : ℕ) → widen 32 ((asU32 a * 2 ^ bitAnd b 0x1f) % 2 ^ 32) ≡ extended 32 (left 32 a (b % 2 ^ 5))
 sllw-is a b =
     let s = b % 2 ^ 5 in
-    ap (λ (s : ℕ). widen ((asU32 a * 2 ^ s) % 2 ^ 32)) (and-mask b 5)
+    ap (λ (s : ℕ). widen 32 ((asU32 a * 2 ^ s) % 2 ^ 32)) (and-mask b 5)
     ∙ whole-word ((asU32 a * 2 ^ s) % 2 ^ 32) (left 32 a s) (mod-lt (asU32 a * 2 ^ s) (pow-pos 32))
     (shl-bits 32 (asU32 a) s
     ∙ word-same 32 (λ i. cond (ltb i s) 0 (bit (asU32 a) (i - s))) (λ i. cond (ltb i s) 0 (bit a (i - s)))
     (λ i h. ap (cond (ltb i s) 0) (bit-mod 32 a (i - s) (omega arith))))
 
-pub srlw-is : (a b : ℕ) → widen (asU32 a / 2 ^ bitAnd b 0x1f) ≡ extended 32 (right 32 a (b % 2 ^ 5))
+pub srlw-is : (a b : ℕ) → widen 32 (asU32 a / 2 ^ bitAnd b 0x1f) ≡ extended 32 (right 32 a (b % 2 ^ 5))
 srlw-is a b =
     let s = b % 2 ^ 5 in
-    ap (λ (s : ℕ). widen (asU32 a / 2 ^ s)) (and-mask b 5)
+    ap (λ (s : ℕ). widen 32 (asU32 a / 2 ^ s)) (and-mask b 5)
     ∙ whole-word (asU32 a / 2 ^ s) (right 32 a s) (lt-of-le-of-lt (shr-le (asU32 a) s) (mod-lt a (pow-pos 32))) (shr-bits 32 a s)
 
 -- a rotation reads the low word alone
 low-word : (a : ℕ) (g : ℕ → ℕ) → word 32 (λ i. bit (asU32 a) (g i % 32)) ≡ word 32 (λ i. bit a (g i % 32))
 low-word a g = word-same 32 (λ i. bit (asU32 a) (g i % 32)) (λ i. bit a (g i % 32)) (λ i h. bit-mod 32 a (g i % 32) (omega arith))
 
-pub rolw-is : (a b : ℕ) → widen (rotl 32 (asU32 a) (bitAnd b 0x1f)) ≡ extended 32 (turnedLeft 32 a (b % 2 ^ 5))
+pub rolw-is : (a b : ℕ) → widen 32 (rotl 32 (asU32 a) (bitAnd b 0x1f)) ≡ extended 32 (turnedLeft 32 a (b % 2 ^ 5))
 rolw-is a b =
     let s = b % 2 ^ 5 in
     let hs : b % 2 ^ 5 ≤ 32 = omega arith in
     let ha : asU32 a < 2 ^ 32 = mod-lt a (pow-pos 32) in
-    ap (λ (s : ℕ). widen (rotl 32 (asU32 a) s)) (and-mask b 5)
+    ap (λ (s : ℕ). widen 32 (rotl 32 (asU32 a) s)) (and-mask b 5)
     ∙ whole-word (rotl 32 (asU32 a) s) (turnedLeft 32 a s) (turned-lt 32 (asU32 a) s hs ha)
     (turned-bits 32 (asU32 a) s hs ha ∙ low-word a (λ i. i + (32 - s)))
 
-pub rorw-is : (a b : ℕ) → widen (rotl 32 (asU32 a) (32 - bitAnd b 0x1f)) ≡ extended 32 (turnedRight 32 a (b % 2 ^ 5))
+pub rorw-is : (a b : ℕ) → widen 32 (rotl 32 (asU32 a) (32 - bitAnd b 0x1f)) ≡ extended 32 (turnedRight 32 a (b % 2 ^ 5))
 rorw-is a b =
     let s = b % 2 ^ 5 in
     let hs : b % 2 ^ 5 ≤ 32 = omega arith in
     let ha : asU32 a < 2 ^ 32 = mod-lt a (pow-pos 32) in
-    ap (λ (s : ℕ). widen (rotl 32 (asU32 a) (32 - s))) (and-mask b 5)
+    ap (λ (s : ℕ). widen 32 (rotl 32 (asU32 a) (32 - s))) (and-mask b 5)
     ∙ whole-word (rotl 32 (asU32 a) (32 - s)) (turnedRight 32 a s) (turned-lt 32 (asU32 a) (32 - s) (omega arith) ha)
     (turned-back-bits 32 (asU32 a) s hs ha ∙ low-word a (λ i. i + s))

@@ -53,8 +53,8 @@ extended-is n x h =
     sym (ap low64 (weights n x) ∙ low-is (signed (suc n) (x % 2 ^ suc n)) (lt-of-lt-of-le (signed-mag (suc n) (x % 2 ^ suc n) small) (pow-mono h)))
 
 -- a word kind's result, the Rust's of 32 bits and the manual's of which the low 32 count
-pub word-kind : (r x : ℕ) → r ≡ x % 2 ^ 32 → widen r ≡ extended 32 x
-word-kind r x e = ap widen e ∙ extended-is 31 x (lit< tt)
+pub word-kind : (r x : ℕ) → r ≡ x % 2 ^ 32 → widen 32 r ≡ extended 32 x
+word-kind r x e = ap (widen 32) e ∙ extended-is 31 x (lit< tt)
 
 -- the signed reading of 64 bits
 pub value-is : (x : ℕ) → x < 2 ^ 64 → signed 64 x ≡ value 64 x

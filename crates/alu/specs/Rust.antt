@@ -18,9 +18,9 @@ use Rattle.alu.specs.declared.AluAnswer.the-variants.{Computed, NoKind}
 abbrev pub asU32 : ℕ → ℕ
 asU32 x = x % 2 ^ 32
 
--- `x as i32 as i64 as u64` of a u32
-abbrev pub widen : ℕ → ℕ
-widen x = bits64 (signed 32 x)
+-- `x as iN as i64 as u64` of n bits
+abbrev pub widen : ℕ → ℕ → ℕ
+widen n x = bits64 (signed n x)
 
 -- `!x`
 abbrev pub not64 : ℕ → ℕ
@@ -67,10 +67,10 @@ rustAlu Srl a b = Computed (a / 2 ^ bitAnd b 0x3f)
 rustAlu Sra a b = Computed (bits64 (shrZ (signed 64 a) (2 ^ bitAnd b 0x3f)))
 rustAlu Or a b = Computed (bitOr a b)
 rustAlu And a b = Computed (bitAnd a b)
-rustAlu Addw a b = Computed (widen ((asU32 a + asU32 b) % 2 ^ 32))
-rustAlu Subw a b = Computed (widen (minus 32 (asU32 a) (asU32 b)))
-rustAlu Sllw a b = Computed (widen ((asU32 a * 2 ^ bitAnd b 0x1f) % 2 ^ 32))
-rustAlu Srlw a b = Computed (widen (asU32 a / 2 ^ bitAnd b 0x1f))
+rustAlu Addw a b = Computed (widen 32 ((asU32 a + asU32 b) % 2 ^ 32))
+rustAlu Subw a b = Computed (widen 32 (minus 32 (asU32 a) (asU32 b)))
+rustAlu Sllw a b = Computed (widen 32 ((asU32 a * 2 ^ bitAnd b 0x1f) % 2 ^ 32))
+rustAlu Srlw a b = Computed (widen 32 (asU32 a / 2 ^ bitAnd b 0x1f))
 rustAlu Sraw a b = Computed (bits64 (shrZ (signed 32 (asU32 a)) (2 ^ bitAnd b 0x1f)))
 rustAlu Mul a b = NoKind
 rustAlu Mulh a b = NoKind
@@ -90,8 +90,8 @@ rustAlu Orn a b = Computed (bitOr a (not64 b))
 rustAlu Xnor a b = Computed (bitXor a (not64 b))
 rustAlu Rol a b = Computed (rotl 64 a (bitAnd b 0x3f))
 rustAlu Ror a b = Computed (rotl 64 a (64 - bitAnd b 0x3f))
-rustAlu Rolw a b = Computed (widen (rotl 32 (asU32 a) (bitAnd b 0x1f)))
-rustAlu Rorw a b = Computed (widen (rotl 32 (asU32 a) (32 - bitAnd b 0x1f)))
+rustAlu Rolw a b = Computed (widen 32 (rotl 32 (asU32 a) (bitAnd b 0x1f)))
+rustAlu Rorw a b = Computed (widen 32 (rotl 32 (asU32 a) (32 - bitAnd b 0x1f)))
 rustAlu Min a b = Computed (cond (less a b) a b)
 rustAlu Max a b = Computed (cond (less b a) a b)
 rustAlu Minu a b = Computed (min a b)
@@ -102,8 +102,8 @@ rustAlu Cpop a b = Computed (ones a)
 rustAlu Clzw a b = Computed (leadingZeros 32 (asU32 a))
 rustAlu Ctzw a b = Computed (trailingZeros 32 (asU32 a))
 rustAlu Cpopw a b = Computed (ones (asU32 a))
-rustAlu SextB a b = Computed (bits64 (signed 8 (a % 2 ^ 8)))
-rustAlu SextH a b = Computed (bits64 (signed 16 (a % 2 ^ 16)))
+rustAlu SextB a b = Computed (widen 8 (a % 2 ^ 8))
+rustAlu SextH a b = Computed (widen 16 (a % 2 ^ 16))
 rustAlu ZextH a b = Computed (a % 2 ^ 16)
 rustAlu Rev8 a b = Computed (swapped a 8)
 rustAlu Sh1add a b = Computed ((shl a 1 + b) % 2 ^ 64)

@@ -12,7 +12,7 @@ use std::num::wrapping_add_u64;
 use std::num::wrapping_sub_u32;
 use std::num::wrapping_sub_u64;
 ghost use mathlib.Core.Path.{_≡_};
-ghost use Prim.Native.Nat.{_-_, _%_, _^_, _≤_, min, max};
+ghost use Prim.Native.Nat.{_-_, _%_, _^_, _≤_, _<_, min, max};
 ghost use Rattle.bits.specs.Bits.{signed};
 ghost use Rattle.alu.specs.Rust.{widen, less, rotl, swapped, spread, orced, rustAlu};
 ghost use Rattle.alu.specs.Call.{answered, kindAt, aluCall};
@@ -32,11 +32,19 @@ fn as_u32(x: u64) -> u32
     (x % WORD) as u32
 }
 
-// `x as i32 as i64 as u64`
-fn widen(x: u32) -> u64
-    ensures { λ r. ⌜ r ≡ widen x ⌝ }
+// `x as iN as i64 as u64` of a number of N bits
+fn widen(x: u64, n: u32) -> u64
+    requires { ⌜ (n ≤ 32) × (x < 2 ^ n) ⌝ }
+    ensures { λ r. ⌜ r ≡ widen n x ⌝ }
 {
-    bits_of(sign_extend(x as u64, 32))
+    bits_of(sign_extend(x, n))
+}
+
+// `x as i32 as i64 as u64`
+fn widen_word(x: u32) -> u64
+    ensures { λ r. ⌜ r ≡ widen 32 x ⌝ }
+{
+    widen(x as u64, 32)
 }
 
 // `x as i64`; a number with the top bit set goes by its complement, which fits.
@@ -138,6 +146,7 @@ fn orc_b(x: u64) -> u64
     result
 }
 
+// One arm for each kind, in the Rust's order.
 pub fn alu(kind: AluKind, lhs: u64, rhs: u64) -> AluAnswer
     ensures { λ r. ⌜ r ≡ rustAlu kind lhs rhs ⌝ }
 {
@@ -152,10 +161,10 @@ pub fn alu(kind: AluKind, lhs: u64, rhs: u64) -> AluAnswer
         AluKind::Sra => Computed(bits_of(as_i64(lhs) >> (rhs & 0x3f))),
         AluKind::Or => Computed(lhs | rhs),
         AluKind::And => Computed(lhs & rhs),
-        AluKind::Addw => Computed(widen(wrapping_add_u32(as_u32(lhs), as_u32(rhs)))),
-        AluKind::Subw => Computed(widen(wrapping_sub_u32(as_u32(lhs), as_u32(rhs)))),
-        AluKind::Sllw => Computed(widen(as_u32(lhs) << (rhs & 0x1f))),
-        AluKind::Srlw => Computed(widen(as_u32(lhs) >> (rhs & 0x1f))),
+        AluKind::Addw => Computed(widen_word(wrapping_add_u32(as_u32(lhs), as_u32(rhs)))),
+        AluKind::Subw => Computed(widen_word(wrapping_sub_u32(as_u32(lhs), as_u32(rhs)))),
+        AluKind::Sllw => Computed(widen_word(as_u32(lhs) << (rhs & 0x1f))),
+        AluKind::Srlw => Computed(widen_word(as_u32(lhs) >> (rhs & 0x1f))),
         AluKind::Sraw => Computed(bits_of(sign_extend(lhs % WORD, 32) >> (rhs & 0x1f))),
         AluKind::Mul => NoKind,
         AluKind::Mulh => NoKind,
@@ -175,8 +184,8 @@ pub fn alu(kind: AluKind, lhs: u64, rhs: u64) -> AluAnswer
         AluKind::Xnor => Computed(lhs ^ !rhs),
         AluKind::Rol => Computed(rotate_left(lhs, rhs & 0x3f)),
         AluKind::Ror => Computed(rotate_right(lhs, rhs & 0x3f)),
-        AluKind::Rolw => Computed(widen(rotate_left_word(as_u32(lhs), rhs & 0x1f))),
-        AluKind::Rorw => Computed(widen(rotate_right_word(as_u32(lhs), rhs & 0x1f))),
+        AluKind::Rolw => Computed(widen_word(rotate_left_word(as_u32(lhs), rhs & 0x1f))),
+        AluKind::Rorw => Computed(widen_word(rotate_right_word(as_u32(lhs), rhs & 0x1f))),
         AluKind::Min => Computed(if less(lhs, rhs) { lhs } else { rhs }),
         AluKind::Max => Computed(if less(rhs, lhs) { lhs } else { rhs }),
         AluKind::Minu => Computed(min(lhs, rhs)),
@@ -187,8 +196,8 @@ pub fn alu(kind: AluKind, lhs: u64, rhs: u64) -> AluAnswer
         AluKind::Clzw => Computed(u32::leading_zeros(as_u32(lhs)) as u64),
         AluKind::Ctzw => Computed(u32::trailing_zeros(as_u32(lhs)) as u64),
         AluKind::Cpopw => Computed(u32::count_ones(as_u32(lhs)) as u64),
-        AluKind::SextB => Computed(bits_of(sign_extend(lhs % 0x100, 8))),
-        AluKind::SextH => Computed(bits_of(sign_extend(lhs % 0x1_0000, 16))),
+        AluKind::SextB => Computed(widen(lhs % 0x100, 8)),
+        AluKind::SextH => Computed(widen(lhs % 0x1_0000, 16)),
         AluKind::ZextH => Computed(lhs % 0x1_0000),
         AluKind::Rev8 => Computed(swap_bytes(lhs)),
         AluKind::Sh1add => Computed(wrapping_add_u64(lhs << 1, rhs)),
@@ -203,6 +212,7 @@ pub fn alu(kind: AluKind, lhs: u64, rhs: u64) -> AluAnswer
     }
 }
 
+// What a number names.
 enum KindAt {
     Known(AluKind),
     Unknown,

@@ -1,17 +1,17 @@
 -- `alu::alu` meets its contract: each arm is told its kind, and its calls say the Rust's operators.
 -- Assumes nothing.
-use mathlib.Core.Path.{_≡_, ap, _∙_}
+use mathlib.Core.Path.{ap, ap₂, _∙_}
+use Prim.Native.Nat.{ℕ}
 use native.Mathlib.Nat.{le-of-lt}
 use native.Mathlib.Omega.{arith}
 use borrow.Author.Needs.{needs}
 use lib.Count.{leading-le, trailing-le, ones-le}
 use mir.Syntax.{w64}
 use mir.Val.{SFits}
-use mir.Facts.{toZ-ofZ}
 use Rattle.bits.proofs.Bit.{masked-lt}
 use Rattle.bits.proofs.Signed.{shr-back, wrapped}
 use Rattle.op.specs.Record.{bits64}
-use Rattle.alu.specs.Rust.{minus}
+use Rattle.alu.specs.Rust.{widen, minus}
 use Rattle.alu.specs.declared.AluAnswer.the-variants.{Computed}
 use Rattle.alu.proofs.alu.Statement.{statement}
 use Rattle.alu.proofs.alu.Tie as tie
@@ -40,10 +40,10 @@ alu-spec =
     (λ c. omega (arith, leading-le 32 (c .as-u329 .result))) (λ c. search needs) (λ c κs. search needs)
     (λ c. omega (arith, trailing-le 32 (c .as-u3210 .result))) (λ c. search needs) (λ c κs. search needs)
     (λ c. omega (arith, ones-le 32 (c .as-u3211 .result) (omega (arith, c .as-u3211 .ensures)))) (λ c. search needs) (λ c κs. search needs)
-    (λ c κs. search needs) (λ c. search needs) (λ c κs. search needs) (λ c κs. search needs) (λ c. search needs) (λ c. search needs) (λ c κs. search needs)
+    (λ c. search needs) (λ c κs. search needs) (λ c. search needs) (λ c. search needs) (λ c κs. search needs) (λ c. search needs) (λ c κs. search needs)
     (λ c. search needs) (λ c κs. search needs) (λ c. search needs) (λ c κs. search needs) (λ c. search needs) (λ c κs. search needs) (λ c. search needs)
-    (λ c κs. search needs) (λ c. search needs) (λ c κs. search needs) (λ c. search needs) (λ c κs. search needs) (λ c. search needs) (λ c κs. search needs)
-    (λ c. search needs) (λ c. search masked-lt) (λ c. search needs) (λ c κs. search needs)
+    (λ c κs. search needs) (λ c. search needs) (λ c κs. search needs) (λ c. search needs) (λ c κs. search needs) (λ c. search needs)
+    (λ c. search masked-lt) (λ c. search needs) (λ c κs. search needs)
     -- Add
     (λ c. rw (c .before .enum-told .given .1, c .wrapping-add-u64 .ensures))
     -- Sub
@@ -58,15 +58,16 @@ alu-spec =
     rw (c .before .before .enum-told8 .given .1) (ap Computed (c .bits-of .ensures ∙ ap bits64 (shr-back _ _ _ ok (c .before .as-i64 .ensures)))))
     (λ c. rw (c .enum-told9 .given .1)) (λ c. rw (c .enum-told10 .given .1))
     -- Addw
-    (λ c. rw (c .before .before .before .before .enum-told11 .given .1, c .widen .ensures, c .before .wrapping-add-u32 .ensures, c .before .before .as-u322 .ensures, c .before .before .before .as-u32 .ensures))
+    (λ c. rw (c .before .before .before .before .enum-told11 .given .1, c .widen-word .ensures, c .before .wrapping-add-u32 .ensures, c .before .before .as-u322 .ensures, c .before .before .before .as-u32 .ensures))
     -- Subw
     (λ c.
-    let less : c .before .wrapping-sub-u32 .result ≡ minus 32 (c .before .before .before .as-u323 .result) (c .before .before .as-u324 .result) = wrapped 32 (c .before .wrapping-sub-u32 .result) _ _ (omega arith) (omega arith) (c .before .wrapping-sub-u32 .ensures) in
-    rw (c .before .before .before .before .enum-told12 .given .1, c .widen2 .ensures, less, c .before .before .as-u324 .ensures, c .before .before .before .as-u323 .ensures))
+    rw (c .before .before .before .before .enum-told12 .given .1, c .widen-word2 .ensures)
+    (ap (λ (x : ℕ). Computed (widen 32 x))
+    (wrapped 32 (c .before .wrapping-sub-u32 .result) _ _ (omega arith) (omega arith) (c .before .wrapping-sub-u32 .ensures) ∙ ap₂ (minus 32) (c .before .before .before .as-u323 .ensures) (c .before .before .as-u324 .ensures))))
     -- Sllw
-    (λ c. rw (c .before .before .enum-told13 .given .1, c .widen3 .ensures, c .before .as-u325 .ensures))
+    (λ c. rw (c .before .before .enum-told13 .given .1, c .widen-word3 .ensures, c .before .as-u325 .ensures))
     -- Srlw
-    (λ c. rw (c .before .before .enum-told14 .given .1, c .widen4 .ensures, c .before .as-u326 .ensures))
+    (λ c. rw (c .before .before .enum-told14 .given .1, c .widen-word4 .ensures, c .before .as-u326 .ensures))
     -- Sraw
     (λ c.
     let ok : SFits w64 (c .before .sign-extend .result) = search needs in
@@ -80,9 +81,9 @@ alu-spec =
     -- Ror
     (λ c. rw (c .before .enum-told33 .given .1, c .rotate-right .ensures))
     -- Rolw
-    (λ c. rw (c .before .before .before .enum-told34 .given .1, c .widen5 .ensures, c .before .rotate-left-word .ensures, c .before .before .as-u327 .ensures))
+    (λ c. rw (c .before .before .before .enum-told34 .given .1, c .widen-word5 .ensures, c .before .rotate-left-word .ensures, c .before .before .as-u327 .ensures))
     -- Rorw
-    (λ c. rw (c .before .before .before .enum-told35 .given .1, c .widen6 .ensures, c .before .rotate-right-word .ensures, c .before .before .as-u328 .ensures))
+    (λ c. rw (c .before .before .before .enum-told35 .given .1, c .widen-word6 .ensures, c .before .rotate-right-word .ensures, c .before .before .as-u328 .ensures))
     -- Min
     (λ c. rw (c .before .before .enum-told36 .given .1, ← c .before .less2 .ensures, c .if1 .taken))
     -- Min
@@ -103,13 +104,9 @@ alu-spec =
     -- Cpopw
     (λ c. rw (c .before .enum-told45 .given .1, c .as-u3211 .ensures))
     -- SextB
-    (λ c.
-    let ok : SFits w64 (c .before .sign-extend2 .result) = search needs in
-    rw (c .before .before .enum-told46 .given .1) (ap Computed (c .bits-of3 .ensures ∙ ap bits64 (toZ-ofZ ok ∙ c .before .sign-extend2 .ensures))))
+    (λ c. rw (c .before .enum-told46 .given .1, c .widen .ensures))
     -- SextH
-    (λ c.
-    let ok : SFits w64 (c .before .sign-extend3 .result) = search needs in
-    rw (c .before .before .enum-told47 .given .1) (ap Computed (c .bits-of4 .ensures ∙ ap bits64 (toZ-ofZ ok ∙ c .before .sign-extend3 .ensures))))
+    (λ c. rw (c .before .enum-told47 .given .1, c .widen2 .ensures))
     (λ c. rw (c .enum-told48 .given .1))
     -- Rev8
     (λ c. rw (c .before .enum-told49 .given .1, c .swap-bytes .ensures))
