@@ -1,1 +1,1 @@
-// Where the Rust and the manual say the same, and where not: theorems alone.
+// Theorems alone: where the Rust reading and the manual's are one, and that they differ at each listed entry.

@@ -3,15 +3,16 @@
 use mathlib.Core.Path.{_≡_, refl, sym, ap, _∙_}
 use Prim.Native.Nat.{ℕ}
 use native.Mathlib.Omega.{arith}
-use Rattle.alu.specs.Call.{answered, aluCall}
+use Rattle.alu.specs.Call.{answerNumber, answerValue, aluCall}
 use Rattle.alu.specs.declared.AluAnswer.{AluAnswer}
 use Rattle.alu.specs.declared.AluAnswer.the-variants.{Computed, NoKind}
 
-same : (r s : AluAnswer) → answered r .0 ≡ answered s .0 → answered r .1 ≡ answered s .1 → r ≡ s
+same : (r s : AluAnswer) → answerNumber r ≡ answerNumber s → answerValue r ≡ answerValue s → r ≡ s
 same (Computed v) (Computed w) n e = ap Computed e
 same (Computed v) NoKind n e = absurd (omega arith)
 same NoKind (Computed w) n e = absurd (omega arith)
 same NoKind NoKind n e = refl
 
-pub only : (kind lhs rhs : ℕ) (r s : AluAnswer) → answered r ≡ aluCall kind lhs rhs → answered s ≡ aluCall kind lhs rhs → r ≡ s
+pub only : (kind lhs rhs : ℕ) (r s : AluAnswer)
+    → (answerNumber r, answerValue r) ≡ aluCall kind lhs rhs → (answerNumber s, answerValue s) ≡ aluCall kind lhs rhs → r ≡ s
 only kind lhs rhs r s p q = same r s (ap (λ (o : ℕ × ℕ). o .0) (p ∙ sym q)) (ap (λ (o : ℕ × ℕ). o .1) (p ∙ sym q))

@@ -15,12 +15,34 @@ ghost use mathlib.Core.Path.{_≡_};
 ghost use Prim.Native.Nat.{_-_, _%_, _^_, _≤_, _<_, min, max};
 ghost use Rattle.bits.specs.Bits.{signed};
 ghost use Rattle.alu.specs.Rust.{widen, less, rotl, swapped, spread, orced, rustAlu};
-ghost use Rattle.alu.specs.Call.{answered, kindAt, aluCall};
+ghost use Rattle.alu.specs.Call.{answerNumber, answerValue, kindAt, aluCall};
 
 // What comes of an ALU call: a value, or that the kind is not taken.
 pub enum AluAnswer {
     Computed(u64),
     NoKind,
+}
+
+impl AluAnswer {
+    // Document 01's number.
+    pub fn number(self) -> u64
+        ensures { λ r. ⌜ r ≡ answerNumber self ⌝ }
+    {
+        match self {
+            Self::Computed(_) => 0,
+            Self::NoKind => 7,
+        }
+    }
+
+    // The value beside the number.
+    pub fn value(self) -> u64
+        ensures { λ r. ⌜ r ≡ answerValue self ⌝ }
+    {
+        match self {
+            Self::Computed(value) => value,
+            Self::NoKind => 0,
+        }
+    }
 }
 
 const WORD: u64 = 0x1_0000_0000;
@@ -287,7 +309,7 @@ fn kind_at(n: u64) -> KindAt
 
 // The public call: any number, also one that is no kind's.
 pub fn alu_call(kind: u64, lhs: u64, rhs: u64) -> AluAnswer
-    ensures { λ r. ⌜ answered r ≡ aluCall kind lhs rhs ⌝ }
+    ensures { λ r. ⌜ (answerNumber r, answerValue r) ≡ aluCall kind lhs rhs ⌝ }
 {
     let KindAt::Known(known) = kind_at(kind) else {
         return NoKind;
