@@ -1,5 +1,8 @@
 -- Laws of bits and bytes, for every crate above.
+pub mod Bit
 pub mod Bytes
 pub mod Cases
 pub mod Every
+pub mod Shift
 pub mod Sign
+pub mod Signed

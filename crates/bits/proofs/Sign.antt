@@ -18,7 +18,7 @@ shifted n h = rw one-mul (mod-eq-of-lt (pow-lt {i = n} {j = 64} (omega arith)))
 pub small : (n : ℕ) → n ≤ 32 → 2 ^ n ≤ 2 ^ 32
 small n h = pow-mono {i = n} {j = 32} h
 
-below-zero : (a b : ℕ) → a < b → pos a -ℤ pos b ≡ negsuc (b - suc a)
+pub below-zero : (a b : ℕ) → a < b → pos a -ℤ pos b ≡ negsuc (b - suc a)
 below-zero a zero h = absurd (not-suc-le-zero h)
 below-zero a (suc k) h = rw (lt-ltb a (suc k) h)
 

@@ -1,6 +1,6 @@
 -- A number by its bits.
 -- Assumes nothing.
-use Prim.Native.Nat.{ℕ, suc, _-_, _/_, _%_, _^_}
+use Prim.Native.Nat.{ℕ, zero, suc, _+_, _-_, _*_, _/_, _%_, _^_}
 use mathlib.Core.Bool.{cond}
 use lib.Dec.{ltb}
 use lib.IntN.{ℤ, pos, negsuc}
@@ -8,6 +8,14 @@ use lib.IntN.{ℤ, pos, negsuc}
 -- the `n` bits of w from bit `lo` up
 abbrev pub bitsAt : ℕ → ℕ → ℕ → ℕ
 bitsAt w lo n = w / 2 ^ lo % 2 ^ n
+
+abbrev pub bit : ℕ → ℕ → ℕ
+bit x i = x / 2 ^ i % 2
+
+-- the number of n bits whose bit i is f i
+unfoldable pub word : ℕ → (ℕ → ℕ) → ℕ
+word zero f = 0
+word (suc n) f = f n * 2 ^ n + word n f
 
 -- n bits in two's complement: v, or v - 2 ^ n where the top bit is set; `negsuc k` is -(k + 1)
 abbrev pub signed : ℕ → ℕ → ℤ

@@ -280,7 +280,7 @@ fn fields(op: u8, kind: u8, rd: u8, rs1: u8, rs2: u8, imm: u64) -> OpRecord
 }
 
 // A signed number's bits, since a cast from a negative number is none of the language's.
-fn bits_of(z: i64) -> u64
+pub fn bits_of(z: i64) -> u64
     ensures { λ r. ⌜ r ≡ bits64 z ⌝ }
 {
     if z >= 0 {

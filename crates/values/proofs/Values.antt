@@ -2,9 +2,10 @@
 -- Assumes nothing.
 use mathlib.Core.Path.{_≡_, refl}
 use mathlib.Core.List.{map}
+use lib.Count.{leadingZeros}
 use Rattle.word.specs.Word.{formBy}
-use Rattle.values.specs.Values.{Value, read, question, answer, values}
+use Rattle.values.specs.Values.{found, stated, values}
 
-pub values-hold : map (λ (v : Value). read (question v)) values ≡ map answer values
-unfolding formBy
+pub values-hold : map found values ≡ map stated values
+unfolding formBy leadingZeros
 values-hold = refl

@@ -1,5 +1,5 @@
 // Document 01's values: those marked P stand in specs/Values.antt as one table, proved; this program runs them through the public calls.
-// A line shows a call's number and the lent bytes afterwards, which start as 170s.
+// A line of decoding shows a call's number and the lent bytes afterwards, which start as 170s; a line of the ALU the number and the value.
 use libc::STDOUT_FILENO;
 
 fn wide(x: u8) -> u64 {
@@ -36,6 +36,14 @@ fn short(raw: u32) {
     line(answer.number(), &lent);
 }
 
+fn alu(kind: u64, lhs: u64, rhs: u64) {
+    let answer = alu::alu_call(kind, lhs, rhs);
+    io::print_decimal(STDOUT_FILENO, answer.number());
+    io::write_all(STDOUT_FILENO, b" ");
+    io::print_decimal(STDOUT_FILENO, answer.value());
+    io::write_all(STDOUT_FILENO, b"\n");
+}
+
 fn main() {
     halfword(0x0000);
     halfword(0x9002);
@@ -48,4 +56,15 @@ fn main() {
     word(0x2875_5513);
     short(0x0010_0513);
     short(0x6045_1513);
+    // Sra, Addw, Clz, Clzw, OrcB, Sll by 64; then multiply, the last divide, and no kind at all
+    alu(7, 0x8000_0000_0000_0000, 1);
+    alu(10, 0x7fff_ffff, 1);
+    alu(39, 0, 0);
+    alu(42, 0, 0);
+    alu(49, 0x0100, 0);
+    alu(2, 12345, 64);
+    alu(15, 6, 7);
+    alu(27, 6, 7);
+    alu(58, 6, 7);
+    alu(0xffff_ffff_ffff_ffff, 6, 7);
 }
