@@ -1,0 +1,4 @@
+-- Theorems on histories.
+pub mod Bound
+pub mod Places
+pub mod Sentences

@@ -1,0 +1,107 @@
+-- A cache keeps a place for each slot and a bit for each page; what its places hold after a history answers each lookup as the history says.
+-- Assumes nothing.
+use mathlib.Core.Path.{_≡_, refl, sym, ap, _∙_}
+use mathlib.Core.Bool.{Bool, true, false, cond, _&&_, _||_, not, true≢false, false≢true}
+use mathlib.Core.List.{List, [], _∷_}
+use mathlib.Core.Option.{Option, none, some}
+use Prim.Native.Nat.{ℕ}
+use native.Mathlib.Omega.{arith}
+use borrow.Author.Tests.{eqb-true, eqb-false, eq-eqb, ne-eqb}
+use lib.Dec.{eqb}
+use Rattle.history.specs.History.{Event, inserted, touched, flushed, shown, marked}
+
+pub data Place : Type 0 where
+  empty : Place
+  holds : ℕ → List ℕ → Place
+
+-- what a lookup at a makes of its slot's place
+abbrev pub found : Place → ℕ → Option (List ℕ)
+found empty a = none
+found (holds b r) a = cond (eqb b a) (some r) none
+
+module _ (slot page : ℕ → ℕ) where
+  -- a place after a scan for page p
+  abbrev pub swept : ℕ → Place → Place
+  swept p empty = empty
+  swept p (holds a r) = cond (eqb (page a) p) empty (holds a r)
+
+  unfoldable pub places : List Event → ℕ → Place
+  places [] i = empty
+  places (inserted a r ∷ h) i = cond (eqb (slot a) i) (holds a r) (places h i)
+  places (touched p ∷ h) i = cond (marked slot page h p) (swept p (places h i)) (places h i)
+  places (flushed ∷ h) i = empty
+
+  -- a place that holds an address is that of its slot, and its page is marked
+  abbrev Sound : List Event → ℕ → Place → Type 0
+  Sound h i empty = Unit {0}
+  Sound h i (holds a r) = (slot a ≡ i) × (marked slot page h (page a) ≡ true)
+
+  sound : (h : List Event) (i : ℕ) → Sound h i (places h i)
+  unfolding places marked
+  sound [] i = tt
+  sound (inserted b q ∷ h) i = go (eqb (slot b) i) refl (places h i) (sound h i)
+    where
+      or-true : (t : Bool) {u : Bool} → u ≡ true → (t || u) ≡ true
+      or-true true e = refl
+      or-true false e = e
+
+      go : (t : Bool) → eqb (slot b) i ≡ t → (k : Place) → Sound h i k → Sound (inserted b q ∷ h) i (cond t (holds b q) k)
+      go true et k s = (eqb-true (slot b) i et, rw (eq-eqb (page b) (page b) refl))
+      go false et empty s = tt
+      go false et (holds a r) s = (s .0, or-true (eqb (page b) (page a)) (s .1))
+  sound (touched p ∷ h) i = go (marked slot page h p) refl (places h i) (sound h i)
+    where
+      other : (a : ℕ) → (p ≡ page a → ⊥) → marked slot page h (page a) ≡ true → (not (eqb p (page a)) && marked slot page h (page a)) ≡ true
+      other a n m = rw (ne-eqb p (page a) n, m)
+
+      scanned : (a : ℕ) (r : List ℕ) (t : Bool) → eqb (page a) p ≡ t → Sound h i (holds a r) → Sound (touched p ∷ h) i (cond t empty (holds a r))
+      scanned a r true et s = tt
+      scanned a r false et s = (s .0, other a (λ e. eqb-false (page a) p et (sym e)) (s .1))
+
+      go : (t : Bool) → marked slot page h p ≡ t → (k : Place) → Sound h i k → Sound (touched p ∷ h) i (cond t (swept p k) k)
+      go true et empty s = tt
+      go true et (holds a r) s = scanned a r (eqb (page a) p) refl s
+      go false et empty s = tt
+      go false et (holds a r) s = (s .0, other a (λ e. true≢false (sym (s .1) ∙ ap (marked slot page h) (sym e) ∙ et)) (s .1))
+  sound (flushed ∷ h) i = tt
+
+  -- a place of the slot answers a lookup as the history does
+  pub answers : (h : List Event) (a : ℕ) → found (places h (slot a)) a ≡ shown slot page h a
+  unfolding places shown
+  answers [] a = refl
+  answers (inserted b q ∷ h) a = go (answers h a) (eqb (slot b) (slot a)) (eqb b a) refl refl
+    where
+      go : found (places h (slot a)) a ≡ shown slot page h a → (t u : Bool) → eqb (slot b) (slot a) ≡ t → eqb b a ≡ u → found (cond t (holds b q) (places h (slot a))) a ≡ cond u (some q) (cond t none (shown slot page h a))
+      go ih true true et eu = rw eu
+      go ih true false et eu = rw eu
+      go ih false true et eu = absurd (eqb-false (slot b) (slot a) et (ap slot (eqb-true b a eu)))
+      go ih false false et eu = ih
+  answers (touched p ∷ h) a = go (answers h a) (marked slot page h p) refl (places h (slot a)) refl (sound h (slot a))
+    where
+      -- an address in another page is not concerned, and one in the page has no unmarked place
+      gone : (b : ℕ) (r : List ℕ) (t u w : Bool) → eqb (page b) p ≡ t → eqb b a ≡ u → eqb p (page a) ≡ w → cond u (some r) none ≡ shown slot page h a → found (cond t empty (holds b r)) a ≡ cond w none (shown slot page h a)
+      gone b r true true true et eu ew ih = refl
+      gone b r true true false et eu ew ih = absurd (eqb-false p (page a) ew (sym (eqb-true (page b) p et) ∙ ap page (eqb-true b a eu)))
+      gone b r true false true et eu ew ih = refl
+      gone b r true false false et eu ew ih = ih
+      gone b r false true true et eu ew ih = absurd (eqb-false (page b) p et (ap page (eqb-true b a eu) ∙ sym (eqb-true p (page a) ew)))
+      gone b r false true false et eu ew ih = rw eu ih
+      gone b r false false true et eu ew ih = rw eu
+      gone b r false false false et eu ew ih = rw eu ih
+
+      stays : (b : ℕ) (r : List ℕ) (u w : Bool) → eqb b a ≡ u → eqb p (page a) ≡ w → marked slot page h p ≡ false → marked slot page h (page b) ≡ true → cond u (some r) none ≡ shown slot page h a → cond u (some r) none ≡ cond w none (shown slot page h a)
+      stays b r true true eu ew m s ih = absurd (true≢false (sym s ∙ ap (marked slot page h) (ap page (eqb-true b a eu) ∙ sym (eqb-true p (page a) ew)) ∙ m))
+      stays b r true false eu ew m s ih = ih
+      stays b r false true eu ew m s ih = refl
+      stays b r false false eu ew m s ih = ih
+
+      nothing : (w : Bool) → none ≡ shown slot page h a → none ≡ cond w none (shown slot page h a)
+      nothing true ih = refl
+      nothing false ih = ih
+
+      go : found (places h (slot a)) a ≡ shown slot page h a → (t : Bool) → marked slot page h p ≡ t → (k : Place) → places h (slot a) ≡ k → Sound h (slot a) k → found (cond t (swept p k) k) a ≡ cond (eqb p (page a)) none (shown slot page h a)
+      go ih true et empty ek s = nothing (eqb p (page a)) (rw ek at ih)
+      go ih true et (holds b r) ek s = gone b r (eqb (page b) p) (eqb b a) (eqb p (page a)) refl refl refl (rw ek at ih)
+      go ih false et empty ek s = nothing (eqb p (page a)) (rw ek at ih)
+      go ih false et (holds b r) ek s = stays b r (eqb b a) (eqb p (page a)) refl refl et (s .1) (rw ek at ih)
+  answers (flushed ∷ h) a = refl
