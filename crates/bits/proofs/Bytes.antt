@@ -1,14 +1,14 @@
 -- Laws of numbers in bytes, and of a list with a part replaced.
 -- Assumes nothing.
-use mathlib.Core.Path.{_≡_, refl, ap}
-use mathlib.Core.List.{List, _++_, append-nil}
-use Prim.Native.Nat.{ℕ, zero, suc, _+_, _-_, _/_, _≤_}
+use mathlib.Core.Path.{_≡_, refl, sym, ap, _∙_}
+use mathlib.Core.List.{List, [], _∷_, _++_, append-assoc, append-nil}
+use Prim.Native.Nat.{ℕ, zero, suc, _+_, _-_, _*_, _/_, _^_, _≤_, _<_}
 use native.Mathlib.Omega.{arith}
-use native.Mathlib.Nat.{add-sub-cancel-left}
-use lib.ListN.{length, take, drop, length-append, length-take, length-drop, drop-of-length-le}
-use lib.Seq.{drop-drop, take-all}
+use native.Mathlib.Nat.{add-sub-cancel-left, add-sub-of-le, div-lt-iff-lt-mul, pow-suc}
+use lib.ListN.{length, take, drop, getD, length-append, length-take, length-drop, drop-of-length-le, take-append-drop}
+use lib.Seq.{drop-drop, take-all, take-at, drop-at, take-append-le, drop-append-le, length-take-le, getD-take, getD-drop}
 use borrow.Rule.Slice.PartMut.{putMid}
-use Rattle.bits.specs.Bytes.{le, patch}
+use Rattle.bits.specs.Bytes.{le, number, part, u64At, patch}
 
 pub length-le : (n x : ℕ) → length (le n x) ≡ n
 unfolding le
@@ -37,3 +37,67 @@ unfolding patch
 patch-whole s p h =
     let b : length s ≤ 0 + length p = omega arith in
     rw (drop-of-length-le s b, append-nil p)
+
+-- eight bytes spelled out
+pub number-eight : (l : List ℕ) → length l ≡ 8 → number l ≡ (getD l 0 0 + 0x100 * getD l 1 0 + 0x1_0000 * getD l 2 0 + 0x100_0000 * getD l 3 0) + 0x1_0000_0000 * (getD l 4 0 + 0x100 * getD l 5 0 + 0x1_0000 * getD l 6 0 + 0x100_0000 * getD l 7 0)
+unfolding number
+number-eight (a ∷ b ∷ c ∷ d ∷ e ∷ f ∷ g ∷ h ∷ []) n = omega arith
+number-eight [] n = absurd (omega arith)
+number-eight (a ∷ []) n = absurd (omega arith)
+number-eight (a ∷ b ∷ []) n = absurd (omega arith)
+number-eight (a ∷ b ∷ c ∷ []) n = absurd (omega arith)
+number-eight (a ∷ b ∷ c ∷ d ∷ []) n = absurd (omega arith)
+number-eight (a ∷ b ∷ c ∷ d ∷ e ∷ []) n = absurd (omega arith)
+number-eight (a ∷ b ∷ c ∷ d ∷ e ∷ f ∷ []) n = absurd (omega arith)
+number-eight (a ∷ b ∷ c ∷ d ∷ e ∷ f ∷ g ∷ []) n = absurd (omega arith)
+number-eight (a ∷ b ∷ c ∷ d ∷ e ∷ f ∷ g ∷ h ∷ i ∷ l) n = absurd (omega arith)
+
+-- what is written is read back
+pub number-le : (n x : ℕ) → x < 256 ^ n → number (le n x) ≡ x
+unfolding number le
+number-le zero x h = omega arith
+number-le (suc n) x h = rw (number-le n (x / 256) (div-lt-iff-lt-mul (omega arith) .1 (rw pow-suc at h))) (omega arith)
+
+-- the part that was replaced
+pub part-same : (s : List ℕ) (at : ℕ) (p : List ℕ) → at + length p ≤ length s → part (patch s at p) at (length p) ≡ p
+unfolding part patch
+part-same s at p h =
+    let l : length (take at s) ≡ at = length-take-le at s (omega arith) in
+    rw (drop-at, take-at)
+
+-- a part within the first of two lists
+part-first : (xs ys : List ℕ) (k n : ℕ) → k + n ≤ length xs → part (xs ++ ys) k n ≡ part xs k n
+unfolding part
+part-first xs ys k n h =
+    let a : k ≤ length xs = omega arith in
+    let b : n ≤ length (drop k xs) = simp length-drop (omega arith) in
+    rw (drop-append-le, take-append-le)
+
+-- a part that ends before what was replaced, and one that starts behind it
+pub part-before : (s : List ℕ) (at : ℕ) (p : List ℕ) (k n : ℕ) → at + length p ≤ length s → k + n ≤ at → part (patch s at p) k n ≡ part s k n
+unfolding part patch
+part-before s at p k n h b =
+    let l : k + n ≤ length (take at s) = simp length-take (omega arith) in
+    part-first (take at s) _ k n l ∙ sym (part-first (take at s) (drop at s) k n l) ∙ ap (λ (z : List ℕ). part z k n) (take-append-drop at s)
+
+pub part-behind : (s : List ℕ) (at : ℕ) (p : List ℕ) (k n : ℕ) → at + length p ≤ length s → at + length p ≤ k → part (patch s at p) k n ≡ part s k n
+unfolding part patch
+part-behind s at p k n h b =
+    let l : length (take at s ++ p) ≡ at + length p = simp (length-append, length-take) (omega arith) in
+    ap (take n)
+    (ap (λ (z : ℕ). drop z (patch s at p)) (sym (add-sub-of-le b))
+    ∙ sym (drop-drop (k - (at + length p)) (at + length p) (patch s at p))
+    ∙ ap (drop (k - (at + length p))) (rw (← append-assoc, drop-at))
+    ∙ drop-drop (k - (at + length p)) (at + length p) s
+    ∙ ap (λ (z : ℕ). drop z s) (add-sub-of-le b))
+
+-- one element of a part
+pub getD-part : (s : List ℕ) (at n j : ℕ) → j < n → getD (part s at n) j 0 ≡ getD s (at + j) 0
+unfolding part
+getD-part s at n j h = getD-take n (drop at s) j 0 h ∙ getD-drop at s j 0
+
+-- a number that was put is there, and another stays
+pub u64-same : (s : List ℕ) (at x : ℕ) → at + 8 ≤ length s → x < 2 ^ 64 → u64At (patch s at (le 8 x)) at ≡ x
+u64-same s at x h b =
+    ap number (ap (part (patch s at (le 8 x)) at) (sym (length-le 8 x)) ∙ part-same s at (le 8 x) (rw length-le h))
+    ∙ number-le 8 x b
