@@ -2,13 +2,13 @@
 -- Assumes nothing.
 use mathlib.Core.Path.{_≡_, refl, sym, ap, _∙_}
 use mathlib.Core.List.{List, [], _∷_, _++_, append-assoc, append-nil}
-use Prim.Native.Nat.{ℕ, zero, suc, _+_, _-_, _*_, _/_, _^_, _≤_, _<_}
+use Prim.Native.Nat.{ℕ, zero, suc, _+_, _-_, _*_, _/_, _%_, _^_, _≤_, _<_}
 use native.Mathlib.Omega.{arith}
-use native.Mathlib.Nat.{add-sub-cancel-left, add-sub-of-le, div-lt-iff-lt-mul, pow-suc}
+use native.Mathlib.Nat.{add-sub-cancel-left, add-sub-of-le, div-div-eq-div-mul, div-lt-iff-lt-mul, pow-suc}
 use lib.ListN.{length, take, drop, getD, length-append, length-take, length-drop, drop-of-length-le, take-append-drop}
 use lib.Seq.{drop-drop, take-all, take-at, drop-at, take-append-le, drop-append-le, length-take-le, getD-take, getD-drop}
 use borrow.Rule.Slice.PartMut.{putMid}
-use Rattle.bits.specs.Bytes.{le, number, part, u64At, patch}
+use Rattle.bits.specs.Bytes.{le, number, part, u64At, patch, halfwordAt, wordAt, doublewordAt}
 
 pub length-le : (n x : ℕ) → length (le n x) ≡ n
 unfolding le
@@ -37,6 +37,22 @@ unfolding patch
 patch-whole s p h =
     let b : length s ≤ 0 + length p = omega arith in
     rw (drop-of-length-le s b, append-nil p)
+
+-- a part of two pieces is put one piece after the other
+pub patch-append : (s : List ℕ) (at : ℕ) (p q : List ℕ) → at + length p ≤ length s → patch s at (p ++ q) ≡ patch (patch s at p) (at + length p) q
+unfolding patch
+patch-append s at p q h =
+    let front : length (take at s ++ p) ≡ at + length p = simp (length-append, length-take) (omega arith) in
+    let t : take (at + length p) (take at s ++ (p ++ drop (at + length p) s)) ≡ take at s ++ p =
+    rw (← append-assoc) (take-at (take at s ++ p) (drop (at + length p) s) (at + length p) front) in
+    let sum : at + length p + length q ≡ at + (length p + length q) = omega arith in
+    let d : drop (at + length p + length q) (take at s ++ (p ++ drop (at + length p) s)) ≡ drop (at + (length p + length q)) s =
+    rw (← append-assoc, ← drop-drop) (ap (drop (length q)) (drop-at (take at s ++ p) (drop (at + length p) s) (at + length p) front) ∙ drop-drop (length q) (at + length p) s ∙ ap (λ (n : ℕ). drop n s) sum) in
+    rw (t, d, length-append) (simp append-assoc)
+
+pub patch-nothing : (s : List ℕ) (at : ℕ) → patch s at [] ≡ s
+unfolding patch
+patch-nothing s at = let e : at + 0 ≡ at = omega arith in rw e (take-append-drop at s)
 
 -- eight bytes spelled out
 pub number-eight : (l : List ℕ) → length l ≡ 8 → number l ≡ (getD l 0 0 + 0x100 * getD l 1 0 + 0x1_0000 * getD l 2 0 + 0x100_0000 * getD l 3 0) + 0x1_0000_0000 * (getD l 4 0 + 0x100 * getD l 5 0 + 0x1_0000 * getD l 6 0 + 0x100_0000 * getD l 7 0)
@@ -91,6 +107,10 @@ part-behind s at p k n h b =
     ∙ drop-drop (k - (at + length p)) (at + length p) s
     ∙ ap (λ (z : ℕ). drop z s) (add-sub-of-le b))
 
+pub length-part : (s : List ℕ) (at n : ℕ) → at + n ≤ length s → length (part s at n) ≡ n
+unfolding part
+length-part s at n h = length-take-le n (drop at s) (simp length-drop (omega arith))
+
 -- one element of a part
 pub getD-part : (s : List ℕ) (at n j : ℕ) → j < n → getD (part s at n) j 0 ≡ getD s (at + j) 0
 unfolding part
@@ -101,3 +121,42 @@ pub u64-same : (s : List ℕ) (at x : ℕ) → at + 8 ≤ length s → x < 2 ^ 6
 u64-same s at x h b =
     ap number (ap (part (patch s at (le 8 x)) at) (sym (length-le 8 x)) ∙ part-same s at (le 8 x) (rw length-le h))
     ∙ number-le 8 x b
+
+-- a number is read back from its bytes
+two : (x : ℕ) → x % 256 + 2 ^ 8 * (x / 256 % 256) ≡ x % 2 ^ 16
+two x = omega arith
+
+four : (x : ℕ) → x % 2 ^ 16 + 2 ^ 16 * (x / 2 ^ 16 % 2 ^ 16) ≡ x % 2 ^ 32
+four x = omega arith
+
+eight : (x : ℕ) → x % 2 ^ 32 + 2 ^ 32 * (x / 2 ^ 32 % 2 ^ 32) ≡ x % 2 ^ 64
+eight x = omega arith
+
+pub halfword-le : (x : ℕ) (rest : List ℕ) → halfwordAt (le 2 x ++ rest) 0 ≡ x % 2 ^ 16
+unfolding le
+halfword-le x rest = two x
+
+pub word-le : (x : ℕ) (rest : List ℕ) → wordAt (le 4 x ++ rest) 0 ≡ x % 2 ^ 32
+unfolding le
+word-le x rest = rw (two x, two (x / 256 / 256), div-div-eq-div-mul x 256 256) (four x)
+
+pub doubleword-le : (x : ℕ) (rest : List ℕ) → doublewordAt (le 8 x ++ rest) 0 ≡ x % 2 ^ 64
+unfolding le
+doubleword-le x rest =
+    let high = x / 256 / 256 / 256 / 256 in
+    let e : high ≡ x / 2 ^ 32 = simp div-div-eq-div-mul in
+    rw (word-le x rest, word-le high rest, e) (eight x)
+
+-- the two ways to read eight bytes are one
+pub u64-doubleword : (s : List ℕ) (at : ℕ) → at + 8 ≤ length s → u64At s at ≡ doublewordAt s at
+u64-doubleword s at h =
+    let e : (j k : ℕ) → j < 8 → at + j ≡ k → getD (part s at 8) j 0 ≡ getD s k 0 = λ j k l q. getD-part s at 8 j l ∙ ap (λ (i : ℕ). getD s i 0) q in
+    let e0 = e 0 at (omega arith) (omega arith) in
+    let e1 = e 1 (at + 1) (omega arith) refl in
+    let e2 = e 2 (at + 2) (omega arith) refl in
+    let e3 = e 3 (at + 2 + 1) (omega arith) (omega arith) in
+    let e4 = e 4 (at + 4) (omega arith) refl in
+    let e5 = e 5 (at + 4 + 1) (omega arith) (omega arith) in
+    let e6 = e 6 (at + 4 + 2) (omega arith) (omega arith) in
+    let e7 = e 7 (at + 4 + 2 + 1) (omega arith) (omega arith) in
+    number-eight (part s at 8) (length-part s at 8 h) ∙ rw (e0, e1, e2, e3, e4, e5, e6, e7) (omega arith)

@@ -1,8 +1,8 @@
 -- Numbers in bytes, low byte first, and parts of a list of bytes.
 -- Assumes nothing.
-use Prim.Native.Nat.{ℕ, zero, suc, _+_, _*_, _/_, _%_}
+use Prim.Native.Nat.{ℕ, zero, suc, _+_, _*_, _/_, _%_, _^_}
 use mathlib.Core.List.{List, [], _∷_, _++_}
-use lib.ListN.{length, take, drop}
+use lib.ListN.{length, take, drop, getD}
 
 -- the n lowest bytes of x
 unfoldable pub le : ℕ → ℕ → List ℕ
@@ -25,3 +25,13 @@ part s at n = take n (drop at s)
 -- the number in the eight bytes from `at` on
 abbrev pub u64At : List ℕ → ℕ → ℕ
 u64At s at = number (part s at 8)
+
+-- the halfword, word and doubleword that stand at an offset
+abbrev pub halfwordAt : List ℕ → ℕ → ℕ
+halfwordAt s at = getD s at 0 + 2 ^ 8 * getD s (at + 1) 0
+
+abbrev pub wordAt : List ℕ → ℕ → ℕ
+wordAt s at = halfwordAt s at + 2 ^ 16 * halfwordAt s (at + 2)
+
+abbrev pub doublewordAt : List ℕ → ℕ → ℕ
+doublewordAt s at = wordAt s at + 2 ^ 32 * wordAt s (at + 4)

@@ -1,10 +1,10 @@
 // Numbers in bits and bytes: what every other crate reads and writes numbers with.
 ghost use mathlib.Core.Path.{_≡_};
-ghost use Prim.Native.Nat.{_+_, _<_, _≤_, _^_};
+ghost use Prim.Native.Nat.{_+_, _*_, _<_, _≤_, _^_};
 ghost use lib.IntN.{pos};
 ghost use lib.ListN.{length, replicate};
 ghost use Rattle.bits.specs.Bits.{signed};
-ghost use Rattle.bits.specs.Bytes.{le, number, u64At, patch};
+ghost use Rattle.bits.specs.Bytes.{le, number, u64At, patch, halfwordAt, wordAt, doublewordAt};
 
 // The low `bits` bits as a signed number. The Rust shifts left and back; the top bit decides here.
 pub fn sign_extend(val: u64, bits: u32) -> i64
@@ -90,4 +90,44 @@ pub fn put_u64(s: &mut [u8], at: usize, x: u64)
 {
     let bytes = le_bytes(x);
     copy_all(&bytes, &mut s[at..at + 8]);
+}
+
+fn pair(low: u8, high: u8) -> u16
+    ensures { λ r. ⌜ r ≡ low + 2 ^ 8 * high ⌝ }
+{
+    low as u16 + 0x100 * (high as u16)
+}
+
+// The halfword at an offset, low byte first; and so the word and the doubleword.
+pub fn halfword_at(s: &[u8], at: usize) -> u16
+    requires { ⌜ at + 2 ≤ length (now s) ⌝ }
+    ensures { λ r. ⌜ r ≡ halfwordAt (now (s .entry)) at ⌝ }
+{
+    pair(s[at], s[at + 1])
+}
+
+fn join(low: u16, high: u16) -> u32
+    ensures { λ r. ⌜ r ≡ low + 2 ^ 16 * high ⌝ }
+{
+    low as u32 + 0x1_0000 * (high as u32)
+}
+
+pub fn word_at(s: &[u8], at: usize) -> u32
+    requires { ⌜ at + 4 ≤ length (now s) ⌝ }
+    ensures { λ r. ⌜ r ≡ wordAt (now (s .entry)) at ⌝ }
+{
+    join(halfword_at(s, at), halfword_at(s, at + 2))
+}
+
+fn join_words(low: u32, high: u32) -> u64
+    ensures { λ r. ⌜ r ≡ low + 2 ^ 32 * high ⌝ }
+{
+    low as u64 + 0x1_0000_0000 * (high as u64)
+}
+
+pub fn doubleword_at(s: &[u8], at: usize) -> u64
+    requires { ⌜ at + 8 ≤ length (now s) ⌝ }
+    ensures { λ r. ⌜ r ≡ doublewordAt (now (s .entry)) at ⌝ }
+{
+    join_words(word_at(s, at), word_at(s, at + 4))
 }
