@@ -1,0 +1,2 @@
+-- What a reader of guest memory finds.
+pub mod Guest
