@@ -2,9 +2,9 @@
 -- Assumes nothing.
 use mathlib.Core.Path.{_≡_, refl, sym, ap, _∙_}
 use mathlib.Core.List.{List, [], _∷_, _++_, append-assoc, append-nil}
-use Prim.Native.Nat.{ℕ, zero, suc, _+_, _-_, _*_, _/_, _^_, _≤_, _<_}
+use Prim.Native.Nat.{ℕ, zero, suc, _+_, _-_, _*_, _/_, _%_, _^_, _≤_, _<_}
 use native.Mathlib.Omega.{arith}
-use native.Mathlib.Nat.{add-sub-cancel-left, add-sub-of-le, div-lt-iff-lt-mul, pow-suc}
+use native.Mathlib.Nat.{add-assoc, add-sub-cancel-left, add-sub-of-le, div-lt-iff-lt-mul, pow-suc}
 use lib.ListN.{length, take, drop, getD, length-append, length-take, length-drop, drop-of-length-le, take-append-drop}
 use lib.Seq.{drop-drop, take-all, take-at, drop-at, take-append-le, drop-append-le, length-take-le, getD-take, getD-drop}
 use borrow.Rule.Slice.PartMut.{putMid}
@@ -19,10 +19,14 @@ pub length-patch : (s : List ℕ) (at : ℕ) (p : List ℕ) → at + length p �
 unfolding patch
 length-patch s at p h = simp (length-append, length-take, length-drop) (omega arith)
 
--- a part that was lent, `&mut s[at..at + n]`, and has come back as p
+-- a part that was lent and has come back as p: one of n elements, and `&mut s[at..at + n]`
+pub put-part : (s : List ℕ) (at n : ℕ) (q p : List ℕ) → q ≡ p → length p ≡ n → putMid at n s q ≡ patch s at p
+unfolding patch
+put-part s at n q p e l = rw (e, ← l, drop-drop)
+
 pub put-back : (s : List ℕ) (at n : ℕ) (q p : List ℕ) → q ≡ p → length p ≡ n → putMid at (at + n - at) s q ≡ patch s at p
 unfolding patch
-put-back s at n q p e l = rw (e, add-sub-cancel-left, ← l, drop-drop)
+put-back s at n q p e l = rw add-sub-cancel-left (put-part s at n q p e l)
 
 -- all of src copied over a list of the same length
 pub over : (src dst : List ℕ) → length dst ≡ length src → take (length src) src ++ drop (length src) dst ≡ src
@@ -101,3 +105,35 @@ pub u64-same : (s : List ℕ) (at x : ℕ) → at + 8 ≤ length s → x < 2 ^ 6
 u64-same s at x h b =
     ap number (ap (part (patch s at (le 8 x)) at) (sym (length-le 8 x)) ∙ part-same s at (le 8 x) (rw length-le h))
     ∙ number-le 8 x b
+
+-- bytes are the bytes of their number
+abbrev pub Bytes : List ℕ → Type 0
+Bytes [] = Unit {0}
+Bytes (b ∷ l) = (b < 256) × Bytes l
+
+pub le-number : (l : List ℕ) → Bytes l → le (length l) (number l) ≡ l
+unfolding le number
+le-number [] h = refl
+le-number (b ∷ l) h =
+    let low : (b + 256 * number l) % 256 ≡ b = omega (arith, h .0) in
+    let high : (b + 256 * number l) / 256 ≡ number l = omega (arith, h .0) in
+    rw (low, high) (ap (λ (t : List ℕ). b ∷ t) (le-number l (h .1)))
+
+-- behind the first of two lists
+pub patch-behind : (xs ys : List ℕ) (at : ℕ) (p : List ℕ) → length xs ≡ at → patch (xs ++ ys) at p ≡ xs ++ (p ++ drop (length p) ys)
+unfolding patch
+patch-behind xs ys at p l = rw (take-at, ← drop-drop (length p) at (xs ++ ys), drop-at)
+
+-- two parts replaced, the second behind the first
+pub patch-patch : (s : List ℕ) (at k : ℕ) (p q : List ℕ) → at + length p ≡ k → k ≤ length s → patch (patch s at p) k q ≡ patch s at (p ++ q)
+unfolding patch
+patch-patch s at k p q e h =
+    ap (λ (t : List ℕ). patch t k q) open-first
+    ∙ patch-behind (take at s ++ p) (drop k s) k q (simp (length-append, length-take) (omega arith))
+    ∙ closed
+  where
+    open-first : patch s at p ≡ (take at s ++ p) ++ drop k s
+    open-first = rw (← e, append-assoc)
+
+    closed : (take at s ++ p) ++ (q ++ drop (length q) (drop k s)) ≡ patch s at (p ++ q)
+    closed = rw (drop-drop, ← e, append-assoc, append-assoc, length-append, add-assoc)

@@ -45,7 +45,8 @@ pub fn fill(dst: &mut [u8], byte: u8)
     }
 }
 
-fn wide(x: u8) -> u64
+// A byte as a wide number: the bound goes with it.
+pub fn wide(x: u8) -> u64
     ensures { λ r. ⌜ (r ≡ x) × (r < 256) ⌝ }
 {
     x as u64
