@@ -120,14 +120,14 @@ made-is LUI = refl
 made-is AUIPC = refl
 made-is JAL = refl
 made-is JALR = refl
-made-is (B k) = ap B (branch-at k)
-made-is (L k) = ap L (load-at k)
-made-is (S k) = ap S (store-at k)
-made-is (I k) = ap I (alu-at k)
-made-is (I6 k) = ap I6 (alu-at k)
-made-is (I5 k) = ap I5 (alu-at k)
-made-is (I0 k) = ap I0 (alu-at k)
-made-is (R k) = ap R (alu-at k)
+made-is (B k) = ap B (branch-at k Beq)
+made-is (L k) = ap L (load-at k Lb)
+made-is (S k) = ap S (store-at k Sb)
+made-is (I k) = ap I (alu-at k Add)
+made-is (I6 k) = ap I6 (alu-at k Add)
+made-is (I5 k) = ap I5 (alu-at k Add)
+made-is (I0 k) = ap I0 (alu-at k Add)
+made-is (R k) = ap R (alu-at k Add)
 
 abbrev pub same : Format → Format → Bool
 same a b = eqb (shape a) (shape b) && eqb (kind a) (kind b)

@@ -1,10 +1,10 @@
 // Numbers in bits and bytes: what every other crate reads and writes numbers with.
 ghost use mathlib.Core.Path.{_≡_};
-ghost use Prim.Native.Nat.{_+_, _<_, _≤_, _^_};
+ghost use Prim.Native.Nat.{_+_, _*_, _<_, _≤_, _^_};
 ghost use lib.IntN.{pos};
 ghost use lib.ListN.{length, replicate};
 ghost use Rattle.bits.specs.Bits.{signed};
-ghost use Rattle.bits.specs.Bytes.{le, number, u64At, patch};
+ghost use Rattle.bits.specs.Bytes.{le, patch, halfwordAt, wordAt, doublewordAt};
 
 // The low `bits` bits as a signed number. The Rust shifts left and back; the top bit decides here.
 pub fn sign_extend(val: u64, bits: u32) -> i64
@@ -34,7 +34,7 @@ pub fn copy_all(src: &[u8], dst: &mut [u8])
     bytes::copy(src, dst);
 }
 
-// All of dst becomes the byte.
+// The same byte all over dst.
 pub fn fill(dst: &mut [u8], byte: u8)
     ensures { λ _. ⌜ now (dst .exit) ≡ replicate (length (now (dst .entry))) byte ⌝ }
 {
@@ -45,28 +45,44 @@ pub fn fill(dst: &mut [u8], byte: u8)
     }
 }
 
-// A byte as a wide number: the bound goes with it.
-pub fn wide(x: u8) -> u64
-    ensures { λ r. ⌜ (r ≡ x) × (r < 256) ⌝ }
+fn pair(low: u8, high: u8) -> u16
+    ensures { λ r. ⌜ r ≡ low + 2 ^ 8 * high ⌝ }
 {
-    x as u64
+    low as u16 + 0x100 * (high as u16)
 }
 
-fn number_of(s: &[u8]) -> u64
-    requires { ⌜ length (now s) ≡ 8 ⌝ }
-    ensures { λ r. ⌜ r ≡ number (now (s .entry)) ⌝ }
+// The halfword at an offset, low byte first; and so the word and the doubleword.
+pub fn halfword_at(s: &[u8], at: usize) -> u16
+    requires { ⌜ at + 2 ≤ length (now s) ⌝ }
+    ensures { λ r. ⌜ r ≡ halfwordAt (now (s .entry)) at ⌝ }
 {
-    let low = wide(s[0]) + 0x100 * wide(s[1]) + 0x1_0000 * wide(s[2]) + 0x100_0000 * wide(s[3]);
-    let high = wide(s[4]) + 0x100 * wide(s[5]) + 0x1_0000 * wide(s[6]) + 0x100_0000 * wide(s[7]);
-    low + 0x1_0000_0000 * high
+    pair(s[at], s[at + 1])
 }
 
-// The number in the eight bytes from `at` on.
-pub fn get_u64(s: &[u8], at: usize) -> u64
+fn join(low: u16, high: u16) -> u32
+    ensures { λ r. ⌜ r ≡ low + 2 ^ 16 * high ⌝ }
+{
+    low as u32 + 0x1_0000 * (high as u32)
+}
+
+pub fn word_at(s: &[u8], at: usize) -> u32
+    requires { ⌜ at + 4 ≤ length (now s) ⌝ }
+    ensures { λ r. ⌜ r ≡ wordAt (now (s .entry)) at ⌝ }
+{
+    join(halfword_at(s, at), halfword_at(s, at + 2))
+}
+
+fn join_words(low: u32, high: u32) -> u64
+    ensures { λ r. ⌜ r ≡ low + 2 ^ 32 * high ⌝ }
+{
+    low as u64 + 0x1_0000_0000 * (high as u64)
+}
+
+pub fn doubleword_at(s: &[u8], at: usize) -> u64
     requires { ⌜ at + 8 ≤ length (now s) ⌝ }
-    ensures { λ r. ⌜ r ≡ u64At (now (s .entry)) at ⌝ }
+    ensures { λ r. ⌜ r ≡ doublewordAt (now (s .entry)) at ⌝ }
 {
-    number_of(&s[at..at + 8])
+    join_words(word_at(s, at), word_at(s, at + 4))
 }
 
 fn le_bytes(x: u64) -> [u8; 8]
@@ -84,8 +100,8 @@ fn le_bytes(x: u64) -> [u8; 8]
     ]
 }
 
-// The number into the eight bytes from `at` on; those around them stay.
-pub fn put_u64(s: &mut [u8], at: usize, x: u64)
+// The doubleword into the eight bytes from an offset on; those around them stay.
+pub fn put_doubleword(s: &mut [u8], at: usize, x: u64)
     requires { ⌜ at + 8 ≤ length (now s) ⌝ }
     ensures { λ _. ⌜ now (s .exit) ≡ patch (now (s .entry)) at (le 8 x) ⌝ }
 {

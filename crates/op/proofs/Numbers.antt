@@ -1,4 +1,4 @@
--- A kind is known by its number.
+-- A kind is found by its number, whatever would stand behind the last one.
 -- Assumes nothing.
 use mathlib.Core.Path.{_≡_, refl}
 use lib.ListN.{getD}
@@ -12,85 +12,85 @@ use Rattle.op.specs.declared.StoreKind.the-variants.{Sb, Sh, Sw, Sd}
 use Rattle.op.specs.declared.BranchKind.{BranchKind}
 use Rattle.op.specs.declared.BranchKind.the-variants.{Beq, Bne, Blt, Bge, Bltu, Bgeu}
 
-pub alu-at : (k : AluKind) → getD aluKinds (aluNumber k) Add ≡ k
-alu-at Add = refl
-alu-at Sub = refl
-alu-at Sll = refl
-alu-at Slt = refl
-alu-at Sltu = refl
-alu-at Xor = refl
-alu-at Srl = refl
-alu-at Sra = refl
-alu-at Or = refl
-alu-at And = refl
-alu-at Addw = refl
-alu-at Subw = refl
-alu-at Sllw = refl
-alu-at Srlw = refl
-alu-at Sraw = refl
-alu-at Mul = refl
-alu-at Mulh = refl
-alu-at Mulhsu = refl
-alu-at Mulhu = refl
-alu-at Div = refl
-alu-at Divu = refl
-alu-at Rem = refl
-alu-at Remu = refl
-alu-at Mulw = refl
-alu-at Divw = refl
-alu-at Divuw = refl
-alu-at Remw = refl
-alu-at Remuw = refl
-alu-at Andn = refl
-alu-at Orn = refl
-alu-at Xnor = refl
-alu-at Rol = refl
-alu-at Ror = refl
-alu-at Rolw = refl
-alu-at Rorw = refl
-alu-at Min = refl
-alu-at Max = refl
-alu-at Minu = refl
-alu-at Maxu = refl
-alu-at Clz = refl
-alu-at Ctz = refl
-alu-at Cpop = refl
-alu-at Clzw = refl
-alu-at Ctzw = refl
-alu-at Cpopw = refl
-alu-at SextB = refl
-alu-at SextH = refl
-alu-at ZextH = refl
-alu-at Rev8 = refl
-alu-at OrcB = refl
-alu-at Sh1add = refl
-alu-at Sh2add = refl
-alu-at Sh3add = refl
-alu-at AddUw = refl
-alu-at Sh1addUw = refl
-alu-at Sh2addUw = refl
-alu-at Sh3addUw = refl
-alu-at SlliUw = refl
+pub alu-at : (k d : AluKind) → getD aluKinds (aluNumber k) d ≡ k
+alu-at Add d = refl
+alu-at Sub d = refl
+alu-at Sll d = refl
+alu-at Slt d = refl
+alu-at Sltu d = refl
+alu-at Xor d = refl
+alu-at Srl d = refl
+alu-at Sra d = refl
+alu-at Or d = refl
+alu-at And d = refl
+alu-at Addw d = refl
+alu-at Subw d = refl
+alu-at Sllw d = refl
+alu-at Srlw d = refl
+alu-at Sraw d = refl
+alu-at Mul d = refl
+alu-at Mulh d = refl
+alu-at Mulhsu d = refl
+alu-at Mulhu d = refl
+alu-at Div d = refl
+alu-at Divu d = refl
+alu-at Rem d = refl
+alu-at Remu d = refl
+alu-at Mulw d = refl
+alu-at Divw d = refl
+alu-at Divuw d = refl
+alu-at Remw d = refl
+alu-at Remuw d = refl
+alu-at Andn d = refl
+alu-at Orn d = refl
+alu-at Xnor d = refl
+alu-at Rol d = refl
+alu-at Ror d = refl
+alu-at Rolw d = refl
+alu-at Rorw d = refl
+alu-at Min d = refl
+alu-at Max d = refl
+alu-at Minu d = refl
+alu-at Maxu d = refl
+alu-at Clz d = refl
+alu-at Ctz d = refl
+alu-at Cpop d = refl
+alu-at Clzw d = refl
+alu-at Ctzw d = refl
+alu-at Cpopw d = refl
+alu-at SextB d = refl
+alu-at SextH d = refl
+alu-at ZextH d = refl
+alu-at Rev8 d = refl
+alu-at OrcB d = refl
+alu-at Sh1add d = refl
+alu-at Sh2add d = refl
+alu-at Sh3add d = refl
+alu-at AddUw d = refl
+alu-at Sh1addUw d = refl
+alu-at Sh2addUw d = refl
+alu-at Sh3addUw d = refl
+alu-at SlliUw d = refl
 
-pub load-at : (k : LoadKind) → getD loadKinds (loadNumber k) Lb ≡ k
-load-at Lb = refl
-load-at Lbu = refl
-load-at Lh = refl
-load-at Lhu = refl
-load-at Lw = refl
-load-at Lwu = refl
-load-at Ld = refl
+pub load-at : (k d : LoadKind) → getD loadKinds (loadNumber k) d ≡ k
+load-at Lb d = refl
+load-at Lbu d = refl
+load-at Lh d = refl
+load-at Lhu d = refl
+load-at Lw d = refl
+load-at Lwu d = refl
+load-at Ld d = refl
 
-pub store-at : (k : StoreKind) → getD storeKinds (storeNumber k) Sb ≡ k
-store-at Sb = refl
-store-at Sh = refl
-store-at Sw = refl
-store-at Sd = refl
+pub store-at : (k d : StoreKind) → getD storeKinds (storeNumber k) d ≡ k
+store-at Sb d = refl
+store-at Sh d = refl
+store-at Sw d = refl
+store-at Sd d = refl
 
-pub branch-at : (k : BranchKind) → getD branchKinds (branchNumber k) Beq ≡ k
-branch-at Beq = refl
-branch-at Bne = refl
-branch-at Blt = refl
-branch-at Bge = refl
-branch-at Bltu = refl
-branch-at Bgeu = refl
+pub branch-at : (k d : BranchKind) → getD branchKinds (branchNumber k) d ≡ k
+branch-at Beq d = refl
+branch-at Bne d = refl
+branch-at Blt d = refl
+branch-at Bge d = refl
+branch-at Bltu d = refl
+branch-at Bgeu d = refl

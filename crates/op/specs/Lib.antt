@@ -1,3 +1,4 @@
 -- What an op's kind and record are, in document 01's numbers.
 pub mod Kinds
 pub mod Record
+pub mod WellFormed

@@ -5,6 +5,7 @@ ghost use lib.ListN.{length};
 ghost use Rattle.bits.specs.Bytes.{patch};
 ghost use Rattle.op.specs.Kinds.{aluNumber, loadNumber, storeNumber, branchNumber};
 ghost use Rattle.op.specs.Record.{bits64, fields, opFields, opBytes, opRecord};
+ghost use Rattle.op.specs.WellFormed.{atMost, limits, within, ilenKnown, opWellFormed};
 
 pub enum AluKind {
     Add,
@@ -352,4 +353,88 @@ pub fn write_op(out: &mut [u8], at: usize, op: Op, ilen: u8, off: u16)
 {
     let record = fields_of(op).bytes(ilen, off);
     bits::copy_all(&record, &mut out[at..at + OpRecord::LEN]);
+}
+
+// The most that each field of an op record may be.
+pub struct Limits {
+    pub kind: u8,
+    pub rd: u8,
+    pub rs1: u8,
+    pub rs2: u8,
+    pub imm: u64,
+}
+
+fn at_most(kind: u8, rd: u8, rs1: u8, rs2: u8, imm: u64) -> Limits
+    ensures { λ r. ⌜ r ≡ atMost kind rd rs1 rs2 imm ⌝ }
+{
+    Limits {
+        kind,
+        rd,
+        rs1,
+        rs2,
+        imm,
+    }
+}
+
+fn limits_of(op: u8) -> Limits
+    ensures { λ r. ⌜ r ≡ limits op ⌝ }
+{
+    match op {
+        0 => at_most(0, 31, 0, 0, u64::MAX),
+        1 => at_most(0, 31, 0, 0, u64::MAX),
+        2 => at_most(57, 31, 31, 0, u64::MAX),
+        3 => at_most(57, 31, 31, 31, 0),
+        4 => at_most(6, 31, 31, 0, u64::MAX),
+        5 => at_most(3, 0, 31, 31, u64::MAX),
+        6 => at_most(5, 0, 31, 31, u64::MAX),
+        7 => at_most(0, 31, 0, 0, u64::MAX),
+        8 => at_most(0, 31, 31, 0, u64::MAX),
+        _ => at_most(0, 0, 0, 0, 0xffff_ffff),
+    }
+}
+
+fn within(record: &[u8], most: Limits) -> bool
+    requires { ⌜ length (now «record») ≡ 16 ⌝ }
+    ensures { λ r. ⌜ r ≡ within (now («record» .entry)) most ⌝ }
+{
+    if most.kind < record[1] {
+        return false;
+    }
+    if most.rd < record[2] {
+        return false;
+    }
+    if most.rs1 < record[3] {
+        return false;
+    }
+    if most.rs2 < record[4] {
+        return false;
+    }
+    bits::doubleword_at(record, 8) <= most.imm
+}
+
+fn ilen_known(op: u8, ilen: u8) -> bool
+    ensures { λ r. ⌜ r ≡ ilenKnown op ilen ⌝ }
+{
+    if ilen == 4 {
+        return true;
+    }
+    if ilen == 2 {
+        return op != 9;
+    }
+    false
+}
+
+// Whether sixteen bytes are a record of one op, wherever it stands.
+pub fn op_well_formed(record: &[u8]) -> bool
+    requires { ⌜ length (now «record») ≡ 16 ⌝ }
+    ensures { λ r. ⌜ r ≡ opWellFormed (now («record» .entry)) ⌝ }
+{
+    let op = record[0];
+    if 9 < op {
+        return false;
+    }
+    if ilen_known(op, record[5]) {
+        return within(record, limits_of(op));
+    }
+    false
 }

@@ -10,7 +10,8 @@ use lib.Dec.{eqb, leb, ltb}
 use lib.ListN.{length, getD}
 use lib.Pow.{pow-pos, pow-mono, shl-exact}
 use borrow.Author.Tests.{leb-true, ltb-true, eqb-true, le-leb, lt-ltb, eq-eqb}
-use Rattle.bits.specs.Bytes.{number, u64At}
+use Rattle.bits.specs.Bytes.{doublewordAt}
+use Rattle.block.specs.Memory.{goodMemory}
 use Rattle.bits.proofs.Tests.{and-both, not-true, true-false}
 use Rattle.store.specs.Layout.{signature, inBounds, front, storeSize, geometry, stated, isStore, opened, Bounded, Fitting, holds, pageOf, slotOf, placeAt}
 use Rattle.store.specs.declared.Geometry.{Geometry}
@@ -25,44 +26,42 @@ shl-one w e h = shl-exact 1 e w (omega arith) (omega arith) ∙ one-mul (2 ^ e)
 pub after : (z i j : ℕ) → i < j → z * i + z ≤ z * j
 after z i j h = let w : z * suc i ≤ z * j = mul-le-mul-left z h in omega (arith, rw mul-suc at w)
 
-pub signature-is : (e : ℕ) → number (signature e) ≡ 0x1_0043_4256 + e * 0x1_0000_0000_0000
-unfolding number
+pub signature-is : (e : ℕ) → doublewordAt (signature e) 0 ≡ 0x1_0043_4256 + e * 0x1_0000_0000_0000
 signature-is e = omega arith
 
 pub bounds-are : (e base pages : ℕ) → inBounds e base pages ≡ true → Bounded (geometry e base pages)
-unfolding inBounds
 bounds-are e base pages h =
+    let size = 4096 * pages in
     let a = and-both (leb e 14) _ h in
-    let b = and-both (leb 1 pages) _ (a .1) in
-    let c = and-both (leb pages 65536) _ (b .1) in
-    let d = and-both (eqb (base % 4096) 0) _ (c .1) in
+    let b = and-both _ (leb (base + size) (2 ^ 56)) (a .1) in
+    let c = and-both _ (leb size (65536 * 4096)) (b .0) in
+    let d = and-both _ (leb 4096 size) (c .0) in
+    let f = and-both (eqb (size % 4096) 0) (eqb (base % 4096) 0) (d .0) in
+    let some : 4096 ≤ 4096 * pages = leb-true _ _ (d .1) in
+    let most : 4096 * pages ≤ 65536 * 4096 = leb-true _ _ (c .1) in
     record {
       few = leb-true _ _ (a .0);
-      some = leb-true _ _ (b .0);
-      most = leb-true _ _ (c .0);
-      aligned = eqb-true _ _ (d .0);
-      below = leb-true _ _ (d .1);
+      some = omega arith;
+      most = omega arith;
+      aligned = eqb-true _ _ (f .1);
+      below = leb-true _ _ (b .1);
       room = omega arith;
       small = omega arith;
     }
 
-pub bounds-hold : (e base pages : ℕ) → Bounded (geometry e base pages) → inBounds e base pages ≡ true
-unfolding inBounds
-bounds-hold e base pages b = rw (le-leb e 14 (b .few), le-leb 1 pages (b .some), le-leb pages 65536 (b .most), eq-eqb _ _ (b .aligned)) (le-leb _ _ (b .below))
-
 -- the four tests of the header check
 pub record Header (s : List ℕ) : Type 0 where
   pub long : 32 ≤ length s
-  pub signed : u64At s 0 ≡ number (signature (getD s 6 0))
-  pub bounded : inBounds (getD s 6 0) (u64At s 8) (u64At s 16) ≡ true
+  pub signed : doublewordAt s 0 ≡ doublewordAt (signature (getD s 6 0)) 0
+  pub bounded : inBounds (getD s 6 0) (doublewordAt s 8) (doublewordAt s 16) ≡ true
   pub size : length s ≡ storeSize (stated s)
 
 pub header-is : (s : List ℕ) → isStore s ≡ true → Header s
 unfolding isStore
 header-is s h =
     let a = and-both (leb 32 (length s)) _ h in
-    let b = and-both (eqb (u64At s 0) (number (signature (getD s 6 0)))) _ (a .1) in
-    let c = and-both (inBounds (getD s 6 0) (u64At s 8) (u64At s 16)) _ (b .1) in
+    let b = and-both (eqb (doublewordAt s 0) (doublewordAt (signature (getD s 6 0)) 0)) _ (a .1) in
+    let c = and-both (inBounds (getD s 6 0) (doublewordAt s 8) (doublewordAt s 16)) _ (b .1) in
     record { long = leb-true _ _ (a .0); signed = eqb-true _ _ (b .0); bounded = c .0; size = eqb-true _ _ (c .1) }
 
 pub is-header : (s : List ℕ) → Header s → isStore s ≡ true

@@ -8,18 +8,14 @@ use native.Mathlib.Omega.{arith}
 use native.Mathlib.Nat.{mul-suc, mul-zero, add-zero, add-assoc}
 use lib.ListN.{length, take, drop, replicate, length-append, length-take, length-drop, length-replicate, take-append-drop, drop-of-length-le, replicate-append-replicate}
 use lib.Seq.{drop-drop, take-at, drop-at, take-append-le}
-use Rattle.bits.specs.Bytes.{le, part, patch, u64At}
-use Rattle.bits.proofs.Bytes.{length-le, length-patch, le-number, patch-behind, patch-patch}
+use Rattle.bits.specs.Bytes.{le, part, patch, doublewordAt}
+use Rattle.bits.proofs.Bytes.{length-le, length-patch, length-part, le-cons, patch-behind, patch-append}
 use Rattle.store.specs.Layout.{signature, header, front, storeSize, Fitting}
 use Rattle.store.specs.Places.{emptyPlace, concerns, emptied, eachPlace, copies, blank}
 use Rattle.store.proofs.Known.{signature-is}
 use Rattle.store.specs.declared.Geometry.{Geometry}
 use Rattle.store.specs.declared.Which.{Which}
 use Rattle.store.specs.declared.Which.the-variants.{EveryPlace, OnPage}
-
-pub length-part : (s : List ℕ) (at n : ℕ) → at + n ≤ length s → length (part s at n) ≡ n
-unfolding part
-length-part s at n h = simp (length-take, length-drop) (omega arith)
 
 -- zeros with eight bytes of 255 over them
 pub empty-made : (z : ℕ) → 8 ≤ z → patch (replicate z 0) 0 (le 8 0xFFFF_FFFF_FFFF_FFFF) ≡ emptyPlace z
@@ -35,7 +31,7 @@ length-empty z h = simp (length-append, length-replicate) (omega arith)
 
 pub length-emptied : (w : Which) (p : List ℕ) → 8 ≤ length p → length (emptied w p) ≡ length p
 unfolding emptied
-length-emptied w p h = go (concerns w (u64At p 0))
+length-emptied w p h = go (concerns w (doublewordAt p 0))
   where
     go : (b : Bool) → length (cond b (emptyPlace (length p)) p) ≡ length p
     go true = length-empty (length p) h
@@ -127,9 +123,9 @@ wiped g s f =
 pub header-made : (g : Geometry) (s : List ℕ) → g .e ≤ 14 → 32 ≤ length s → patch (patch (patch (patch s 0 (le 8 (0x1_0043_4256 + g .e * 0x1_0000_0000_0000))) 8 (le 8 (g .base))) 16 (le 8 (g .pages))) 24 (le 8 1) ≡ patch s 0 (header g 1)
 header-made g s h l =
     ap (λ (t : List ℕ). patch (patch (patch t 8 b) 16 p) 24 n) (ap (patch s 0) signed)
-    ∙ ap (λ (t : List ℕ). patch (patch t 16 p) 24 n) (patch-patch s 0 8 a b refl (omega arith))
-    ∙ ap (λ (t : List ℕ). patch t 24 n) (patch-patch s 0 16 (a ++ b) p (simp (length-append, length-le)) (omega arith))
-    ∙ patch-patch s 0 24 ((a ++ b) ++ p) n (simp (length-append, length-le)) (omega arith)
+    ∙ ap (λ (t : List ℕ). patch (patch t 16 p) 24 n) (sym (patch-append s 0 a b (omega arith)))
+    ∙ ap (λ (t : List ℕ). patch t 24 n) (then (a ++ b) 16 p (simp (length-append, length-le)) (omega arith))
+    ∙ then ((a ++ b) ++ p) 24 n (simp (length-append, length-le)) (omega arith)
     ∙ ap (patch s 0) (rw (append-assoc, append-assoc))
   where
     a : List ℕ
@@ -144,5 +140,25 @@ header-made g s h l =
     n : List ℕ
     n = le 8 1
 
+    then : (front : List ℕ) (at : ℕ) (next : List ℕ) → length front ≡ at → at ≤ length s → patch (patch s 0 front) at next ≡ patch s 0 (front ++ next)
+    then front at next e f =
+        let z : 0 + length front ≡ at = omega arith in
+        sym (patch-append s 0 front next (omega arith) ∙ ap (λ (k : ℕ). patch (patch s 0 front) k next) z)
+
     signed : le 8 (0x1_0043_4256 + g .e * 0x1_0000_0000_0000) ≡ a
-    signed = ap (le 8) (sym (signature-is (g .e))) ∙ le-number a (omega arith, (omega arith, (omega arith, (omega arith, (omega arith, (omega arith, (omega arith, (omega arith, tt))))))))
+    signed =
+        let top = g .e + 256 * 0 in
+        let zero-top = 0 + 256 * top in
+        let version = 1 + 256 * zero-top in
+        let reading = 0 + 256 * version in
+        let c = 67 + 256 * reading in
+        let b-c = 66 + 256 * c in
+        let sums : 0x1_0043_4256 + g .e * 0x1_0000_0000_0000 ≡ 86 + 256 * b-c = omega arith in
+        ap (le 8) sums
+        ∙ le-cons 7 86 b-c (omega arith)
+        (le-cons 6 66 c (omega arith)
+        (le-cons 5 67 reading (omega arith)
+        (le-cons 4 0 version (omega arith)
+        (le-cons 3 1 zero-top (omega arith)
+        (le-cons 2 0 top (omega arith)
+        (le-cons 1 (g .e) 0 (omega arith) (le-cons 0 0 0 (omega arith) refl)))))))

@@ -6,7 +6,8 @@ use mathlib.Core.Bool.{Bool, cond, _&&_}
 use mathlib.Core.List.{List, [], _∷_, _++_}
 use lib.Dec.{eqb, leb, ltb}
 use lib.ListN.{length, getD}
-use Rattle.bits.specs.Bytes.{le, number, u64At, patch}
+use Rattle.bits.specs.Bytes.{le, doublewordAt, patch}
+use Rattle.block.specs.Memory.{goodMemory}
 use Rattle.store.specs.declared.Geometry.{Geometry}
 use Rattle.store.specs.declared.Opened.{Opened}
 use Rattle.store.specs.declared.Opened.the-variants.{Sound, NotAStore}
@@ -18,10 +19,9 @@ signature e = 86 ∷ 66 ∷ 67 ∷ 0 ∷ 1 ∷ 0 ∷ e ∷ 0 ∷ []
 abbrev pub header : Geometry → ℕ → List ℕ
 header g generation = signature (g .e) ++ (le 8 (g .base) ++ (le 8 (g .pages) ++ le 8 generation))
 
--- 1 to 65,536 pages, a base that is a multiple of 4,096, an end of at most 2 ^ 56; e at most 14
-unfoldable pub inBounds : ℕ → ℕ → ℕ → Bool
-inBounds e base pages =
-    leb e 14 && (leb 1 pages && (leb pages 65536 && (eqb (base % 4096) 0 && leb (base + 4096 * pages) (2 ^ 56))))
+-- e at most 14, and a memory within the bounds
+abbrev pub inBounds : ℕ → ℕ → ℕ → Bool
+inBounds e base pages = leb e 14 && goodMemory (4096 * pages) base
 
 -- where the places begin: behind the header, and eight bytes for each begun 64 pages
 abbrev pub front : ℕ → ℕ
@@ -35,12 +35,12 @@ abbrev pub geometry : ℕ → ℕ → ℕ → Geometry
 geometry e base pages = record { e = e; base = base; pages = pages; size = 1040 }
 
 abbrev pub stated : List ℕ → Geometry
-stated s = geometry (getD s 6 0) (u64At s 8) (u64At s 16)
+stated s = geometry (getD s 6 0) (doublewordAt s 8) (doublewordAt s 16)
 
 unfoldable pub isStore : List ℕ → Bool
 isStore s =
-    leb 32 (length s) && (eqb (u64At s 0) (number (signature (getD s 6 0)))
-    && (inBounds (getD s 6 0) (u64At s 8) (u64At s 16) && eqb (length s) (storeSize (stated s))))
+    leb 32 (length s) && (eqb (doublewordAt s 0) (doublewordAt (signature (getD s 6 0)) 0)
+    && (inBounds (getD s 6 0) (doublewordAt s 8) (doublewordAt s 16) && eqb (length s) (storeSize (stated s))))
 
 -- the header check
 unfoldable pub opened : List ℕ → Opened
@@ -75,7 +75,7 @@ abbrev pub placeAt : Geometry → ℕ → ℕ
 placeAt g i = front (g .pages) + g .size * i
 
 abbrev pub generationOf : List ℕ → ℕ
-generationOf s = u64At s 24
+generationOf s = doublewordAt s 24
 
 -- the generation one up, wrapping
 unfoldable pub bumped : List ℕ → List ℕ

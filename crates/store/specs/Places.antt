@@ -7,7 +7,7 @@ use lib.Bits.{bitAnd, bitOr}
 use lib.Dec.{eqb}
 use lib.ListN.{length, getD, set, replicate}
 use Rattle.bits.specs.Bits.{bit}
-use Rattle.bits.specs.Bytes.{u64At, part, patch}
+use Rattle.bits.specs.Bytes.{doublewordAt, part, patch}
 use Rattle.store.specs.Layout.{front}
 use Rattle.store.specs.declared.Geometry.{Geometry}
 use Rattle.store.specs.declared.Which.{Which}
@@ -35,7 +35,7 @@ concerns EveryPlace a = true
 concerns (OnPage page) a = eqb (a / 4096) page
 
 unfoldable pub emptied : Which → List ℕ → List ℕ
-emptied w p = cond (concerns w (u64At p 0)) (emptyPlace (length p)) p
+emptied w p = cond (concerns w (doublewordAt p 0)) (emptyPlace (length p)) p
 
 -- the first n places of z bytes from `first` on, one after the other, each as f makes it
 unfoldable pub eachPlace : (List ℕ → List ℕ) → ℕ → ℕ → ℕ → List ℕ → List ℕ

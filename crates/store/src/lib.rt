@@ -4,21 +4,12 @@ ghost use mathlib.Core.Bool.{true};
 ghost use mathlib.Core.List.{_++_};
 ghost use Prim.Native.Nat.{_+_, _-_, _*_, _/_, _%_, _^_, _≤_, _<_};
 ghost use lib.ListN.{length, take, replicate};
-ghost use Rattle.bits.specs.Bytes.{le, part, patch, u64At};
+ghost use Rattle.bits.specs.Bytes.{part, patch};
 ghost use Rattle.store.specs.Layout.{header, inBounds, front, storeSize, geometry, opened, Bounded, Fitting, holds, pageOf, slotOf, placeAt, generationOf, bumped};
 ghost use Rattle.store.specs.Places.{pageBit, putBit, withBit, emptyPlace, concerns, emptied, eachPlace, blank};
-
-// A slot, by where its place begins in the store.
-pub struct Slot {
-    pub at: usize,
-}
-
-impl Slot {
-    // The address of an empty place, and a place's bytes.
-    pub const EMPTY: u64 = u64::MAX;
-
-    pub const SIZE: usize = 1040;
-}
+use block::MAX_PAGES;
+use block::PAGE;
+use block::Slot;
 
 // What a store's header says.
 pub struct Geometry {
@@ -41,19 +32,10 @@ pub fn in_bounds(e: u64, base: u64, pages: u64) -> bool
     if 14 < e {
         return false;
     }
-    if pages == 0 {
+    if MAX_PAGES < pages {
         return false;
     }
-    if 65536 < pages {
-        return false;
-    }
-    if base % 4096 != 0 {
-        return false;
-    }
-    if 0x100_0000_0000_0000 - 4096 * pages < base {
-        return false;
-    }
-    true
+    block::good_memory(PAGE * pages, base)
 }
 
 impl Geometry {
@@ -65,7 +47,7 @@ impl Geometry {
             e,
             base,
             pages,
-            size: Slot::SIZE,
+            size: Slot::LEN,
         }
     }
 
@@ -100,7 +82,7 @@ impl Geometry {
         if address < self.base {
             return false;
         }
-        address < self.base + 4096 * self.pages
+        address < self.base + PAGE * self.pages
     }
 
     // The page of an address in memory, counted from the base.
@@ -108,18 +90,16 @@ impl Geometry {
         requires { ⌜ holds self address ≡ true ⌝ }
         ensures { λ r. ⌜ (r ≡ pageOf self address) × (r < self .pages) ⌝ }
     {
-        (address - self.base) / 4096
+        (address - self.base) / PAGE
     }
 
-    // The slot of an address.
-    pub fn slot(self, address: u64) -> Slot
+    // Where the place of the address's slot begins.
+    pub fn place(self, address: u64) -> usize
         requires { ⌜ Bounded self ⌝ }
-        ensures { λ r. ⌜ r .at ≡ placeAt self (slotOf self address) ⌝ }
+        ensures { λ r. ⌜ r ≡ placeAt self (slotOf self address) ⌝ }
     {
-        let i = address / 2 % self.slots() as u64;
-        Slot {
-            at: self.front() + self.size * i as usize,
-        }
+        let slot = address / 2 % self.slots() as u64;
+        self.front() + self.size * slot as usize
     }
 }
 
@@ -130,10 +110,10 @@ pub fn open(store: &[u8]) -> Opened
     if store.len() < 32 {
         return Opened::NotAStore;
     }
-    let e = bits::wide(store[6]);
-    let base = bits::get_u64(store, 8);
-    let pages = bits::get_u64(store, 16);
-    if bits::get_u64(store, 0) != 0x1_0043_4256 + e * 0x1_0000_0000_0000 {
+    let e = store[6] as u64;
+    let base = bits::doubleword_at(store, 8);
+    let pages = bits::doubleword_at(store, 16);
+    if bits::doubleword_at(store, 0) != 0x1_0043_4256 + e * 0x1_0000_0000_0000 {
         return Opened::NotAStore;
     }
     if in_bounds(e, base, pages) {
@@ -186,8 +166,8 @@ pub fn bump(store: &mut [u8])
     requires { ⌜ 32 ≤ length (now store) ⌝ }
     ensures { λ _. ⌜ now (store .exit) ≡ bumped (now (store .entry)) ⌝ }
 {
-    let generation = bits::get_u64(store, 24);
-    bits::put_u64(store, 24, std::num::wrapping_add_u64(generation, 1));
+    let generation = bits::doubleword_at(store, 24);
+    bits::put_doubleword(store, 24, std::num::wrapping_add_u64(generation, 1));
 }
 
 // Which places are emptied: all, or those with an address in a page, which is counted from address 0.
@@ -202,7 +182,7 @@ impl Which {
     {
         match self {
             Self::EveryPlace => true,
-            Self::OnPage(page) => address / 4096 == page,
+            Self::OnPage(page) => address / PAGE == page,
         }
     }
 }
@@ -212,14 +192,14 @@ fn empty(place: &mut [u8])
     ensures { λ _. ⌜ now (place .exit) ≡ emptyPlace (length (now (place .entry))) ⌝ }
 {
     bits::fill(place, 0);
-    bits::put_u64(place, 0, Slot::EMPTY);
+    bits::put_doubleword(place, 0, Slot::EMPTY);
 }
 
 fn empty_if(place: &mut [u8], which: Which)
     requires { ⌜ 8 ≤ length (now place) ⌝ }
     ensures { λ _. ⌜ now (place .exit) ≡ emptied which (now (place .entry)) ⌝ }
 {
-    if which.concerns(bits::get_u64(place, 0)) {
+    if which.concerns(bits::doubleword_at(place, 0)) {
         empty(place);
     }
 }
@@ -267,8 +247,8 @@ pub fn put_header(store: &mut [u8], g: Geometry)
     requires { ⌜ (32 ≤ length (now store)) × (g .e ≤ 14) ⌝ }
     ensures { λ _. ⌜ now (store .exit) ≡ patch (now (store .entry)) 0 (header g 1) ⌝ }
 {
-    bits::put_u64(store, 0, 0x1_0043_4256 + g.e * 0x1_0000_0000_0000);
-    bits::put_u64(store, 8, g.base);
-    bits::put_u64(store, 16, g.pages);
-    bits::put_u64(store, 24, 1);
+    bits::put_doubleword(store, 0, 0x1_0043_4256 + g.e * 0x1_0000_0000_0000);
+    bits::put_doubleword(store, 8, g.base);
+    bits::put_doubleword(store, 16, g.pages);
+    bits::put_doubleword(store, 24, 1);
 }

@@ -8,9 +8,12 @@ use lib.Dec.{T, eqb}
 use borrow.Author.Tests.{ne-eqb}
 use Rattle.bits.specs.Bits.{bitsAt}
 use Rattle.bits.proofs.Every.{every, at}
+use Rattle.op.specs.Record.{opFields}
+use Rattle.op.specs.declared.Op.{Op}
 use Rattle.op.specs.declared.Op.the-variants.{Fallback}
 use Rattle.op.specs.declared.Decoded.the-variants.{Some, None}
-use Rattle.op.proofs.Fallback.{Other, no-fallback, none, some}
+use Rattle.op.proofs.Fallback.{Other, no-fallback, none, some, other-op}
+use Rattle.op.proofs.Proper.{Proper}
 use Rattle.word.specs.Instruction.{opcode, funct3, funct7, rs2}
 use Rattle.word.specs.Word.{formBy, formOf, opOf, rustWord}
 use Rattle.word.specs.declared.Form.{Form}
@@ -18,18 +21,18 @@ use Rattle.word.specs.declared.Form.the-variants.{NoForm, Lui, Auipc, Ja
 
 form-other : (w : ℕ) (f : Form) → Other (opOf w f)
 form-other w NoForm = none
-form-other w Lui = some refl
-form-other w Auipc = some refl
-form-other w Jal = some refl
-form-other w Jalr = some refl
-form-other w (Branch k) = some refl
-form-other w (Load k) = some refl
-form-other w (Store k) = some refl
-form-other w (Imm k) = some refl
-form-other w (Shift6 k) = some refl
-form-other w (Shift5 k) = some refl
-form-other w (Unary k) = some refl
-form-other w (Reg k) = some refl
+form-other w Lui = some refl (omega arith)
+form-other w Auipc = some refl (omega arith)
+form-other w Jal = some refl (omega arith)
+form-other w Jalr = some refl (omega arith)
+form-other w (Branch k) = some refl (omega arith)
+form-other w (Load k) = some refl (omega arith)
+form-other w (Store k) = some refl (omega arith)
+form-other w (Imm k) = some refl (omega arith)
+form-other w (Shift6 k) = some refl (omega arith)
+form-other w (Shift5 k) = some refl (omega arith)
+form-other w (Unary k) = some refl (omega arith)
+form-other w (Reg k) = some refl (omega arith)
 
 pub word-no-fallback : (w raw : ℕ) → rustWord w ≡ Some (Fallback raw) → ⊥
 word-no-fallback w raw = no-fallback (rustWord w) raw (form-other w (formOf w))
@@ -74,3 +77,7 @@ word-low w h =
     blank-is w (formOf w)
     (rw (ne-eqb (opcode w % 4) 3 n) at
     (at 128 (λ op. eqb (op % 4) 3 || blank (formBy op (funct3 w) (funct7 w) (rs2 w))) (blanks (funct3 w) (funct7 w) (rs2 w)) (opcode w) (omega arith)))
+
+-- so an op that a word is read as has a record that is well formed
+pub word-op : (w : ℕ) (op : Op) → rustWord w ≡ Some op → (eqb (opFields op .op) 9 ≡ false) × Proper op
+word-op w op = other-op (rustWord w) op (form-other w (formOf w))

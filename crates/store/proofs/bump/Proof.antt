@@ -10,7 +10,7 @@ returned : tie.Need-returns
 unfolding bumped
 returned c =
     let put = c .before .before in
-    put .put-u64 .ensures ∙ rw (put .before .wrapping-add-u64 .ensures, put .before .before .before .get-u64 .ensures)
+    put .put-doubleword .ensures ∙ rw (put .before .wrapping-add-u64 .ensures, put .before .before .before .doubleword-at .ensures)
 
 pub bump-spec : {M : Type 1} → statement M
 bump-spec =

@@ -5,8 +5,7 @@ use mathlib.Core.Path.{_≡_, _∙_, ap}
 use Prim.Native.Nat.{ℕ, _-_}
 use lib.ListN.{length, replicate, length-replicate}
 use Rattle.bits.specs.Bytes.{part}
-use Rattle.bits.proofs.Bytes.{put-part}
-use Rattle.store.proofs.Places.{length-part}
+use Rattle.bits.proofs.Bytes.{put-part, length-part}
 use borrow.Author.Needs.{needs}
 use Rattle.store.proofs.clear_bits.Statement.{statement}
 use Rattle.store.proofs.clear_bits.Tie as tie

@@ -17,4 +17,4 @@ empty-spec =
     (λ c.
     let put = c .before .before in
     let start = put .before .before .before .before .before .before .before in
-    put .put-u64 .ensures ∙ ap (λ (l : List ℕ). patch l 0 (le 8 0xFFFF_FFFF_FFFF_FFFF)) (put .before .before .before .before .fill .ensures) ∙ empty-made _ (start .pre)))
+    put .put-doubleword .ensures ∙ ap (λ (l : List ℕ). patch l 0 (le 8 0xFFFF_FFFF_FFFF_FFFF)) (put .before .before .before .before .fill .ensures) ∙ empty-made _ (start .pre)))

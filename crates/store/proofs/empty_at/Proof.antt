@@ -4,9 +4,9 @@ use mathlib.Core.Path.{_∙_, ap}
 use Prim.Native.Nat.{ℕ}
 use native.Mathlib.Nat.{add-sub-cancel-left}
 use Rattle.bits.specs.Bytes.{part}
-use Rattle.bits.proofs.Bytes.{put-back}
+use Rattle.bits.proofs.Bytes.{put-back, length-part}
 use Rattle.store.specs.Places.{emptied}
-use Rattle.store.proofs.Places.{length-part, length-emptied}
+use Rattle.store.proofs.Places.{length-emptied}
 use borrow.Author.Needs.{needs}
 use Rattle.store.proofs.empty_at.Statement.{statement}
 use Rattle.store.proofs.empty_at.Tie as tie

@@ -12,13 +12,13 @@ taken : tie.Need-returns
 unfolding emptied
 taken c =
     let test = c .before .before .before .before .before in
-    c .before .before .empty .ensures ∙ rw (← test .before .get-u64 .ensures, ← test .concerns .ensures, c .before .before .before .before .if1 .taken)
+    c .before .before .empty .ensures ∙ rw (← test .before .doubleword-at .ensures, ← test .concerns .ensures, c .before .before .before .before .if1 .taken)
 
 left : tie.Need-returns-2
 unfolding emptied
 left c =
     let test = c .before in
-    rw (← test .before .get-u64 .ensures, ← test .concerns .ensures, c .if1 .left)
+    rw (← test .before .doubleword-at .ensures, ← test .concerns .ensures, c .if1 .left)
 
 pub empty-if-spec : {M : Type 1} → statement M
 empty-if-spec =

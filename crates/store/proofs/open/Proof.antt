@@ -2,12 +2,11 @@
 -- Assumes nothing.
 use native.Mathlib.Omega.{arith}
 use mathlib.Core.Path.{_≡_, sym, _∙_, ap}
+use lib.ListN.{getD}
 use Rattle.store.specs.Layout.{signature, inBounds, storeSize, geometry, stated}
 use Rattle.store.specs.declared.Geometry.{Geometry}
-use Rattle.bits.specs.Bytes.{number}
 use Rattle.bits.proofs.Tests.{true-false}
 use mathlib.Core.Bool.{Bool}
-use Prim.Native.Nat.{ℕ}
 use Rattle.store.specs.declared.Opened.the-variants.{Sound}
 use Rattle.store.proofs.Known.{bounds-are, Header, opened-sound, opened-not, signature-is}
 use borrow.Author.Needs.{needs}
@@ -17,27 +16,28 @@ use Rattle.store.proofs.open.Tie as tie
 abbrev within : Geometry → Bool
 within g = inBounds (g .e) (g .base) (g .pages)
 
-told : (c : tie.After-get-u642) → geometry (c .before .before .wide .result) (c .before .get-u64 .result) (c .get-u642 .result) ≡ stated (c .before .before .before .before .before .before .args .store .now)
-told c = rw (c .before .before .wide .ensures .0, c .before .get-u64 .ensures, c .get-u642 .ensures)
+told : (c : tie.After-doubleword-at2) → geometry (getD (c .before .before .before .before .before .args .store .now) 6 0) (c .before .doubleword-at .result) (c .doubleword-at2 .result) ≡ stated (c .before .before .before .before .before .args .store .now)
+told c = rw (c .before .doubleword-at .ensures, c .doubleword-at2 .ensures)
 
 pub open-spec : {M : Type 1} → statement M
 open-spec =
     tie.close
     (tie.spec
     (λ c. sym (opened-not _ (λ h. omega (arith, h .long))))
-    (λ c. search needs) (λ c κs. search needs) (λ c κs. search needs) (λ c κs. search needs) (λ c κs. search needs) (λ c. search needs) (λ c. search needs)
+    (λ c. search needs) (λ c. omega (arith, c .shared-slice-known2 .given 6)) (λ c κs. search needs) (λ c κs. search needs) (λ c κs. search needs)
+    (λ c. omega (arith, c .before .before .before .shared-slice-known2 .given 6)) (λ c. omega (arith, c .before .before .before .shared-slice-known2 .given 6))
     (λ c. sym (opened-not _ (λ h. omega (arith, h .signed ∙ signature-is _))))
     (λ c κs. search needs) (λ c κs. search needs)
     (λ c κs. rw (c .new .ensures) (bounds-are _ _ _ (sym (c .before .before .in-bounds .ensures) ∙ c .before .if3 .taken)))
     (λ c.
     let test = c .before .before .before in
     let read = test .before .before .before .before in
-    let s = read .before .before .before .before .before .before .args .store .now in
+    let s = read .before .before .before .before .before .args .store .now in
     let same = c .before .before .new .ensures ∙ told read in
     ap Sound same
     ∙ sym (opened-sound s (record {
       long = omega arith;
-      signed = sym (test .before .before .before .get-u643 .ensures) ∙ test .before .before .if2 .left ∙ sym (signature-is _) ∙ ap (λ (e : ℕ). number (signature e)) (read .before .before .wide .ensures .0);
+      signed = sym (test .before .before .before .doubleword-at3 .ensures) ∙ test .before .before .if2 .left ∙ sym (signature-is _);
       bounded = ap within (sym (told read)) ∙ sym (test .before .in-bounds .ensures) ∙ test .if3 .taken;
       size = c .if4 .taken ∙ c .before .store-size .ensures ∙ ap storeSize same;
     })))

@@ -17,6 +17,6 @@ put-header-spec =
     let second = third .before .before .before .before in
     let one = second .before .before .before .before in
     let start = one .before .before .before .before in
-    fourth .put-u644 .ensures
-    ∙ rw (third .put-u643 .ensures, second .put-u642 .ensures, one .put-u64 .ensures)
+    fourth .put-doubleword4 .ensures
+    ∙ rw (third .put-doubleword3 .ensures, second .put-doubleword2 .ensures, one .put-doubleword .ensures)
     (header-made (start .args .g) (start .args .store .now) (start .pre .1) (start .pre .0))))

@@ -1,0 +1,25 @@
+-- Tests of a difference, where the definition has a sum that could wrap in the code.
+-- Assumes nothing.
+use mathlib.Core.Path.{_≡_, refl, sym}
+use mathlib.Core.Bool.{Bool, true, false}
+use Prim.Native.Nat.{ℕ, _+_, _-_, _≤_}
+use native.Mathlib.Omega.{arith}
+use lib.Dec.{ltb, leb}
+use borrow.Author.Tests.{lt-ltb, ltb-true, le-leb, leb-true}
+
+same : (s t : Bool) → (s ≡ true → t ≡ true) → (t ≡ true → s ≡ true) → s ≡ t
+same true t f g = sym (f refl)
+same false true f g = g refl
+same false false f g = refl
+
+pub below : (a b n : ℕ) → b ≤ a → ltb (a - b) n ≡ ltb a (b + n)
+below a b n h =
+    same (ltb (a - b) n) (ltb a (b + n))
+    (λ t. lt-ltb a (b + n) (omega (arith, ltb-true (a - b) n t)))
+    (λ t. lt-ltb (a - b) n (omega (arith, ltb-true a (b + n) t)))
+
+pub room : (a b n : ℕ) → b ≤ n → leb a (n - b) ≡ leb (a + b) n
+room a b n h =
+    same (leb a (n - b)) (leb (a + b) n)
+    (λ t. le-leb (a + b) n (omega (arith, leb-true a (n - b) t)))
+    (λ t. le-leb a (n - b) (omega (arith, leb-true (a + b) n t)))

@@ -1,0 +1,12 @@
+-- `block::jumps` meets its contract.
+-- Assumes nothing.
+use borrow.Author.Tests.{eq-eqb, ne-eqb}
+use Rattle.block.proofs.jumps.Statement.{statement}
+use Rattle.block.proofs.jumps.Tie as tie
+
+pub jumps-spec : {M : Type 1} → statement M
+jumps-spec =
+    tie.close
+    (tie.spec
+    (λ c. rw (eq-eqb _ _ (c .if1 .taken)))
+    (λ c. rw (ne-eqb _ _ (c .if1 .left))))

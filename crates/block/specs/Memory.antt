@@ -1,0 +1,22 @@
+-- Guest memory as document 01 bounds it, by its length in bytes and its base.
+-- Assumes nothing.
+use Prim.Native.Nat.{ℕ, _+_, _-_, _*_, _/_, _%_, _^_}
+use mathlib.Core.Bool.{Bool, _&&_}
+use mathlib.Core.List.{List}
+use lib.Dec.{eqb, leb, ltb}
+use lib.ListN.{take, drop}
+
+-- 1 to 65,536 whole pages from a page's start, up to 2^56
+abbrev pub goodMemory : ℕ → ℕ → Bool
+goodMemory size base = eqb (size % 4096) 0 && eqb (base % 4096) 0 && leb 4096 size && leb size (65536 * 4096) && leb (base + size) (2 ^ 56)
+
+-- the addresses that can hold a block: all of memory, odd ones too
+abbrev pub canHold : ℕ → ℕ → ℕ → Bool
+canHold size base address = leb base address && ltb address (base + size)
+
+-- the bytes of an address's page, and those of them from the address on
+abbrev pub page : List ℕ → ℕ → ℕ → List ℕ
+page memory base address = take 4096 (drop ((address - base) / 4096 * 4096) memory)
+
+abbrev pub restOfPage : List ℕ → ℕ → ℕ → List ℕ
+restOfPage memory base address = drop (address % 4096) (page memory base address)
