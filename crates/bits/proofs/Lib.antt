@@ -6,3 +6,4 @@ pub mod Every
 pub mod Shift
 pub mod Sign
 pub mod Signed
+pub mod Tests

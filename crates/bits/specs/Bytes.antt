@@ -9,22 +9,13 @@ unfoldable pub le : ℕ → ℕ → List ℕ
 le zero x = []
 le (suc n) x = x % 256 ∷ le n (x / 256)
 
--- s with p in place of what stood from `at` on
-unfoldable pub patch : List ℕ → ℕ → List ℕ → List ℕ
-patch s at p = take at s ++ (p ++ drop (at + length p) s)
-
--- the number that bytes say
-unfoldable pub number : List ℕ → ℕ
-number [] = 0
-number (b ∷ bs) = b + 256 * number bs
-
 -- the n elements of s from `at` on
 unfoldable pub part : List ℕ → ℕ → ℕ → List ℕ
 part s at n = take n (drop at s)
 
--- the number in the eight bytes from `at` on
-abbrev pub u64At : List ℕ → ℕ → ℕ
-u64At s at = number (part s at 8)
+-- s with p in place of what stood from `at` on
+unfoldable pub patch : List ℕ → ℕ → List ℕ → List ℕ
+patch s at p = take at s ++ (p ++ drop (at + length p) s)
 
 -- the halfword, word and doubleword that stand at an offset
 abbrev pub halfwordAt : List ℕ → ℕ → ℕ

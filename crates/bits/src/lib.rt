@@ -4,7 +4,7 @@ ghost use Prim.Native.Nat.{_+_, _*_, _<_, _≤_, _^_};
 ghost use lib.IntN.{pos};
 ghost use lib.ListN.{length, replicate};
 ghost use Rattle.bits.specs.Bits.{signed};
-ghost use Rattle.bits.specs.Bytes.{le, number, u64At, patch, halfwordAt, wordAt, doublewordAt};
+ghost use Rattle.bits.specs.Bytes.{le, patch, halfwordAt, wordAt, doublewordAt};
 
 // The low `bits` bits as a signed number. The Rust shifts left and back; the top bit decides here.
 pub fn sign_extend(val: u64, bits: u32) -> i64
@@ -34,7 +34,7 @@ pub fn copy_all(src: &[u8], dst: &mut [u8])
     bytes::copy(src, dst);
 }
 
-// All of dst becomes the byte.
+// The same byte all over dst.
 pub fn fill(dst: &mut [u8], byte: u8)
     ensures { λ _. ⌜ now (dst .exit) ≡ replicate (length (now (dst .entry))) byte ⌝ }
 {
@@ -43,53 +43,6 @@ pub fn fill(dst: &mut [u8], byte: u8)
         dst[i] = byte;
         i += 1;
     }
-}
-
-fn wide(x: u8) -> u64
-    ensures { λ r. ⌜ (r ≡ x) × (r < 256) ⌝ }
-{
-    x as u64
-}
-
-fn number_of(s: &[u8]) -> u64
-    requires { ⌜ length (now s) ≡ 8 ⌝ }
-    ensures { λ r. ⌜ r ≡ number (now (s .entry)) ⌝ }
-{
-    let low = wide(s[0]) + 0x100 * wide(s[1]) + 0x1_0000 * wide(s[2]) + 0x100_0000 * wide(s[3]);
-    let high = wide(s[4]) + 0x100 * wide(s[5]) + 0x1_0000 * wide(s[6]) + 0x100_0000 * wide(s[7]);
-    low + 0x1_0000_0000 * high
-}
-
-// The number in the eight bytes from `at` on.
-pub fn get_u64(s: &[u8], at: usize) -> u64
-    requires { ⌜ at + 8 ≤ length (now s) ⌝ }
-    ensures { λ r. ⌜ r ≡ u64At (now (s .entry)) at ⌝ }
-{
-    number_of(&s[at..at + 8])
-}
-
-fn le_bytes(x: u64) -> [u8; 8]
-    ensures { λ r. ⌜ r ≡ le 8 x ⌝ }
-{
-    [
-        (x % 256) as u8,
-        (x / 256 % 256) as u8,
-        (x / 0x1_0000 % 256) as u8,
-        (x / 0x100_0000 % 256) as u8,
-        (x / 0x1_0000_0000 % 256) as u8,
-        (x / 0x100_0000_0000 % 256) as u8,
-        (x / 0x1_0000_0000_0000 % 256) as u8,
-        (x / 0x100_0000_0000_0000 % 256) as u8,
-    ]
-}
-
-// The number into the eight bytes from `at` on; those around them stay.
-pub fn put_u64(s: &mut [u8], at: usize, x: u64)
-    requires { ⌜ at + 8 ≤ length (now s) ⌝ }
-    ensures { λ _. ⌜ now (s .exit) ≡ patch (now (s .entry)) at (le 8 x) ⌝ }
-{
-    let bytes = le_bytes(x);
-    copy_all(&bytes, &mut s[at..at + 8]);
 }
 
 fn pair(low: u8, high: u8) -> u16
@@ -130,4 +83,28 @@ pub fn doubleword_at(s: &[u8], at: usize) -> u64
     ensures { λ r. ⌜ r ≡ doublewordAt (now (s .entry)) at ⌝ }
 {
     join_words(word_at(s, at), word_at(s, at + 4))
+}
+
+fn le_bytes(x: u64) -> [u8; 8]
+    ensures { λ r. ⌜ r ≡ le 8 x ⌝ }
+{
+    [
+        (x % 256) as u8,
+        (x / 256 % 256) as u8,
+        (x / 0x1_0000 % 256) as u8,
+        (x / 0x100_0000 % 256) as u8,
+        (x / 0x1_0000_0000 % 256) as u8,
+        (x / 0x100_0000_0000 % 256) as u8,
+        (x / 0x1_0000_0000_0000 % 256) as u8,
+        (x / 0x100_0000_0000_0000 % 256) as u8,
+    ]
+}
+
+// The doubleword into the eight bytes from an offset on; those around them stay.
+pub fn put_doubleword(s: &mut [u8], at: usize, x: u64)
+    requires { ⌜ at + 8 ≤ length (now s) ⌝ }
+    ensures { λ _. ⌜ now (s .exit) ≡ patch (now (s .entry)) at (le 8 x) ⌝ }
+{
+    let bytes = le_bytes(x);
+    copy_all(&bytes, &mut s[at..at + 8]);
 }

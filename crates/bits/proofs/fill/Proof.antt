@@ -1,33 +1,38 @@
--- `bits::fill` meets its contract: after i turns the first i bytes are written, and those behind them are the old ones.
+-- `bits::fill` meets its contract: the bytes passed are all `byte`.
 -- Assumes nothing.
-use mathlib.Core.Path.{_≡_, refl, _∙_}
-use mathlib.Core.List.{_++_, append-nil}
-use Prim.Native.Nat.{_≤_, _-_}
+use mathlib.Core.Path.{_≡_, sym, ap, _∙_, refl}
+use Prim.Native.Nat.{ℕ, _+_, _-_, _≤_}
 use native.Mathlib.Omega.{arith}
-use lib.ListN.{length, drop, replicate, length-set}
-use lib.Seq.{drop-length}
-use borrow.Author.Fill.{fill-more}
+use native.Mathlib.Numerals.{add-one}
+use lib.ListN.{length, take, set, replicate, length-set, replicate-append-replicate}
+use lib.Seq.{take-suc-set, take-all}
 use borrow.Author.Needs.{needs}
 use Rattle.bits.proofs.fill.Statement.{statement}
 use Rattle.bits.proofs.fill.Tie as tie
 
 abbrev Inv-loop : tie.InvT-loop
-Inv-loop dst₀ byte i₀ dst i = (i ≤ length dst₀) × (dst ≡ replicate i byte ++ drop i dst₀) × (length dst ≡ length dst₀)
+Inv-loop dst₀ byte i₀ dst i = (i ≤ length dst) × (length dst ≡ length dst₀) × (take i dst ≡ replicate i byte)
 
 abbrev μ-loop : tie.MeasureT-loop
-μ-loop dst₀ byte i₀ dst i = length dst₀ - i
+μ-loop dst₀ byte i₀ dst i = length dst - i
+
+loop-again : tie.Need-loop-again Inv-loop μ-loop
+loop-again c =
+    let l = c .before .loop in
+    let b = c .before .before .args .byte in
+    let more : take (l .i + 1) (set (l .dst) (l .i) b) ≡ replicate (l .i + 1) b =
+    ap (λ (n : ℕ). take n (set (l .dst) (l .i) b)) (add-one (l .i)) ∙ take-suc-set (l .dst) (l .i) b (c .loop-test .taken) ∙ rw (l .inv .2) (replicate-append-replicate (l .i) 1 b) in
+    (simp length-set (omega arith), simp length-set (omega arith), more)
 
 pub fill-spec : {M : Type 1} → statement M
 fill-spec =
     tie.close
-    (tie.spec Inv-loop μ-loop
-    (λ c. (search needs, refl, refl))
-    (λ c. omega arith) (λ c. omega arith) (λ c. omega arith)
+    (tie.spec
+    Inv-loop
+    μ-loop
+    (λ c. (omega arith, refl, refl)) (λ c. omega arith) (λ c. omega arith)
+    (λ c. simp length-set (omega arith)) loop-again (λ c. omega arith)
     (λ c.
-    let l = c .before in
-    (omega arith, rw (l .loop .inv .1) (fill-more (l .loop .i) (l .before .args .byte) (l .before .args .dst .now) (omega arith)), simp length-set (l .loop .inv .2)))
-    (λ c. c .before .loop .inv .2)
-    (λ c.
-    let l = c .before in
-    let e : l .loop .i ≡ length (l .before .args .dst .now) = omega arith in
-    l .loop .inv .1 ∙ rw (e, drop-length, append-nil)))
+    let l = c .before .loop in
+    let e : l .i ≡ length (l .dst) = omega arith in
+    sym (take-all (length (l .dst)) (l .dst) (omega arith)) ∙ rw (e) at (l .inv .2) ∙ rw (l .inv .1) refl))

@@ -1,14 +1,14 @@
--- `bits::put_u64` meets its contract: the part that was lent comes back as the number's bytes.
+-- `bits::put_doubleword` meets its contract: the part that was lent comes back as the number's bytes.
 -- Assumes nothing.
 use mathlib.Core.Path.{_∙_}
 use Rattle.bits.specs.Bytes.{le}
 use Rattle.bits.proofs.Bytes.{put-back, length-le}
 use borrow.Author.Needs.{needs}
-use Rattle.bits.proofs.put_u64.Statement.{statement}
-use Rattle.bits.proofs.put_u64.Tie as tie
+use Rattle.bits.proofs.put_doubleword.Statement.{statement}
+use Rattle.bits.proofs.put_doubleword.Tie as tie
 
-pub put-u64-spec : {M : Type 1} → statement M
-put-u64-spec =
+pub put-doubleword-spec : {M : Type 1} → statement M
+put-doubleword-spec =
     tie.close
     (tie.spec
     (λ c κs. search needs) (λ c. search needs) (λ c. search needs) (λ c. search needs) (λ c. search needs) (λ c. search needs) (λ c κs. search needs)

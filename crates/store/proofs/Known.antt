@@ -1,0 +1,124 @@
+-- What the header check tells of a store, and each of its tests in a record.
+-- Assumes nothing.
+use mathlib.Core.Path.{_≡_, refl, sym, ap, subst, _∙_}
+use mathlib.Core.Bool.{Bool, true, false, cond, _&&_}
+use mathlib.Core.List.{List}
+use Prim.Native.Nat.{ℕ, suc, _+_, _-_, _*_, _/_, _%_, _^_, _≤_, _<_}
+use native.Mathlib.Omega.{arith}
+use native.Mathlib.Nat.{one-mul, mod-lt, mul-suc, mul-le-mul, mul-le-mul-left}
+use lib.Dec.{eqb, leb, ltb}
+use lib.ListN.{length, getD}
+use lib.Pow.{pow-pos, pow-mono, shl-exact}
+use borrow.Author.Tests.{leb-true, ltb-true, eqb-true, le-leb, lt-ltb, eq-eqb}
+use Rattle.bits.specs.Bytes.{doublewordAt}
+use Rattle.block.specs.Memory.{goodMemory}
+use Rattle.bits.proofs.Tests.{and-both, not-true, true-false}
+use Rattle.store.specs.Layout.{signature, inBounds, front, storeSize, geometry, stated, isStore, opened, Bounded, Fitting, holds, pageOf, slotOf, placeAt}
+use Rattle.store.specs.declared.Geometry.{Geometry}
+use Rattle.store.specs.declared.Opened.{Opened}
+use Rattle.store.specs.declared.Opened.the-variants.{Sound, NotAStore}
+
+-- a 1 shifted within the width
+pub shl-one : (w e : ℕ) → e < w → (1 * 2 ^ e) % 2 ^ w ≡ 2 ^ e
+shl-one w e h = shl-exact 1 e w (omega arith) (omega arith) ∙ one-mul (2 ^ e)
+
+-- places of z bytes: those of a lower slot end before
+pub after : (z i j : ℕ) → i < j → z * i + z ≤ z * j
+after z i j h = let w : z * suc i ≤ z * j = mul-le-mul-left z h in omega (arith, rw mul-suc at w)
+
+pub signature-is : (e : ℕ) → doublewordAt (signature e) 0 ≡ 0x1_0043_4256 + e * 0x1_0000_0000_0000
+signature-is e = omega arith
+
+pub bounds-are : (e base pages : ℕ) → inBounds e base pages ≡ true → Bounded (geometry e base pages)
+bounds-are e base pages h =
+    let size = 4096 * pages in
+    let a = and-both (leb e 14) _ h in
+    let b = and-both _ (leb (base + size) (2 ^ 56)) (a .1) in
+    let c = and-both _ (leb size (65536 * 4096)) (b .0) in
+    let d = and-both _ (leb 4096 size) (c .0) in
+    let f = and-both (eqb (size % 4096) 0) (eqb (base % 4096) 0) (d .0) in
+    let some : 4096 ≤ 4096 * pages = leb-true _ _ (d .1) in
+    let most : 4096 * pages ≤ 65536 * 4096 = leb-true _ _ (c .1) in
+    record {
+      few = leb-true _ _ (a .0);
+      some = omega arith;
+      most = omega arith;
+      aligned = eqb-true _ _ (f .1);
+      below = leb-true _ _ (b .1);
+      room = omega arith;
+      small = omega arith;
+    }
+
+-- the four tests of the header check
+pub record Header (s : List ℕ) : Type 0 where
+  pub long : 32 ≤ length s
+  pub signed : doublewordAt s 0 ≡ doublewordAt (signature (getD s 6 0)) 0
+  pub bounded : inBounds (getD s 6 0) (doublewordAt s 8) (doublewordAt s 16) ≡ true
+  pub size : length s ≡ storeSize (stated s)
+
+pub header-is : (s : List ℕ) → isStore s ≡ true → Header s
+unfolding isStore
+header-is s h =
+    let a = and-both (leb 32 (length s)) _ h in
+    let b = and-both (eqb (doublewordAt s 0) (doublewordAt (signature (getD s 6 0)) 0)) _ (a .1) in
+    let c = and-both (inBounds (getD s 6 0) (doublewordAt s 8) (doublewordAt s 16)) _ (b .1) in
+    record { long = leb-true _ _ (a .0); signed = eqb-true _ _ (b .0); bounded = c .0; size = eqb-true _ _ (c .1) }
+
+pub is-header : (s : List ℕ) → Header s → isStore s ≡ true
+unfolding isStore
+is-header s h = rw (le-leb 32 (length s) (h .long), eq-eqb _ _ (h .signed), h .bounded) (eq-eqb _ _ (h .size))
+
+pub opened-sound : (s : List ℕ) → Header s → opened s ≡ Sound (stated s)
+unfolding opened
+opened-sound s h = rw (is-header s h)
+
+pub opened-not : (s : List ℕ) → (Header s → ⊥) → opened s ≡ NotAStore
+unfolding opened
+opened-not s f = rw (not-true (isStore s) (λ h. f (header-is s h)))
+
+-- what a sound store's geometry says
+pub record Known (s : List ℕ) (g : Geometry) : Type 0 where
+  pub fitting : Fitting g s
+  pub head : Header s
+  pub is : stated s ≡ g
+
+pub opened-says : (s : List ℕ) (g : Geometry) → opened s ≡ Sound g → Known s g
+unfolding opened
+opened-says s g h = go (isStore s) refl h
+  where
+    go : (b : Bool) → isStore s ≡ b → cond b (Sound (stated s)) NotAStore ≡ Sound g → Known s g
+    go true e k =
+        let q : stated s ≡ g = cc in
+        let w = header-is s e in
+        subst (Known s) q (record { fitting = record { bounds = bounds-are _ _ _ (w .bounded); size = w .size }; head = w; is = refl })
+    go false e k = absurd (let z : _≡_ {A = ℕ} 0 1 = cc in omega arith)
+
+pub slot-lt : (g : Geometry) (a : ℕ) → slotOf g a < 2 ^ g .e
+slot-lt g a = mod-lt (a / 2) (pow-pos (g .e))
+
+pub slots-le : (g : Geometry) → Bounded g → 2 ^ g .e ≤ 16384
+slots-le g b = pow-mono (b .few)
+
+-- a product with a place's size stays small
+pub size-small : (g : Geometry) (i : ℕ) → Bounded g → i ≤ 2 ^ g .e → g .size * i ≤ 67108864
+size-small g i b h =
+    let w = slots-le g b in
+    let n : i ≤ 16384 = omega arith in
+    mul-le-mul {n₂ = 4096} {m₂ = 16384} (b .small) n
+
+-- a place lies within the store, behind the bitmap
+pub place-fits : (g : Geometry) (s : List ℕ) (i : ℕ) → Fitting g s → i < 2 ^ g .e → placeAt g i + g .size ≤ length s
+place-fits g s i f h = let w = after (g .size) i (2 ^ g .e) h in omega (arith, f .size)
+
+pub front-fits : (g : Geometry) (s : List ℕ) → Fitting g s → front (g .pages) ≤ length s
+front-fits g s f = omega (arith, f .size)
+
+pub holds-are : (g : Geometry) (a : ℕ) → holds g a ≡ true → (g .base ≤ a) × (a < g .base + 4096 * g .pages)
+unfolding holds
+holds-are g a h = let w = and-both (leb (g .base) a) _ h in (leb-true _ _ (w .0), ltb-true _ _ (w .1))
+
+pub page-lt : (g : Geometry) (a : ℕ) → holds g a ≡ true → pageOf g a < g .pages
+page-lt g a h = omega (arith, holds-are g a h)
+
+pub bit-fits : (g : Geometry) (s : List ℕ) (p : ℕ) → Fitting g s → p < g .pages → 32 + p / 8 < front (g .pages)
+bit-fits g s p f h = omega arith

@@ -1,0 +1,3 @@
+-- Laws of the store, for the cache and its history.
+pub mod Known
+pub mod Places

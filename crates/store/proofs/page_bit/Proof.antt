@@ -1,0 +1,17 @@
+-- `store::page_bit` meets its contract: the quotient by the mask.
+-- Assumes nothing.
+use Rattle.store.specs.Places.{pageBit}
+use borrow.Author.Needs.{needs}
+use Rattle.store.proofs.page_bit.Statement.{statement}
+use Rattle.store.proofs.page_bit.Tie as tie
+
+returned : tie.Need-returns
+unfolding pageBit
+returned c = rw (c .mask .ensures .0)
+
+pub page-bit-spec : {M : Type 1} → statement M
+page-bit-spec =
+    tie.close
+    (tie.spec
+    (λ c. search needs) (λ c. search needs) (λ c κs. search needs) (λ c. search needs)
+    (λ c. returned c))

@@ -1,0 +1,25 @@
+-- `store::wipe` meets its contract: zeros in the bitmap, and then a walk over all places.
+-- Assumes nothing.
+use mathlib.Core.Path.{_∙_}
+use native.Mathlib.Omega.{arith}
+use Rattle.store.proofs.Places.{wiped}
+use borrow.Author.Needs.{needs}
+use Rattle.store.proofs.wipe.Statement.{statement}
+use Rattle.store.proofs.wipe.Tie as tie
+
+pub wipe-spec : {M : Type 1} → statement M
+wipe-spec =
+    tie.close
+    (tie.spec
+    (λ c κs. search needs) (λ c κs. search needs) (λ c κs. search needs)
+    (λ c κs.
+    let start = c .before .before .before .before .before .before .before .before in
+    rw (c .slots .ensures .0) (omega (arith, start .pre)))
+    (λ c. search needs)
+    (λ c.
+    let walk = c .before .before in
+    let clear = walk .before .before .before .before .before in
+    let start = clear .before .before .before .before in
+    walk .empty-places .ensures
+    ∙ rw (walk .before .slots .ensures .0, clear .clear-bits .ensures, clear .before .before .front .ensures .0)
+    (wiped (start .args .g) (start .args .store .now) (start .pre))))

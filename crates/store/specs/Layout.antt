@@ -1,0 +1,82 @@
+-- The cache store as document 01 lays it out: a header of 32 bytes, the page bitmap, 2 ^ e places.
+-- Assumes nothing.
+use Prim.Native.Nat.{ℕ, _+_, _-_, _*_, _/_, _%_, _^_, _≤_}
+use mathlib.Core.Path.{_≡_}
+use mathlib.Core.Bool.{Bool, cond, _&&_}
+use mathlib.Core.List.{List, [], _∷_, _++_}
+use lib.Dec.{eqb, leb, ltb}
+use lib.ListN.{length, getD}
+use Rattle.bits.specs.Bytes.{le, doublewordAt, patch}
+use Rattle.block.specs.Memory.{goodMemory}
+use Rattle.store.specs.declared.Geometry.{Geometry}
+use Rattle.store.specs.declared.Opened.{Opened}
+use Rattle.store.specs.declared.Opened.the-variants.{Sound, NotAStore}
+
+-- "VBC", a zero, version 1, e, a zero
+abbrev pub signature : ℕ → List ℕ
+signature e = 86 ∷ 66 ∷ 67 ∷ 0 ∷ 1 ∷ 0 ∷ e ∷ 0 ∷ []
+
+abbrev pub header : Geometry → ℕ → List ℕ
+header g generation = signature (g .e) ++ (le 8 (g .base) ++ (le 8 (g .pages) ++ le 8 generation))
+
+-- e at most 14, and a memory within the bounds
+abbrev pub inBounds : ℕ → ℕ → ℕ → Bool
+inBounds e base pages = leb e 14 && goodMemory (4096 * pages) base
+
+-- where the places begin: behind the header, and eight bytes for each begun 64 pages
+abbrev pub front : ℕ → ℕ
+front pages = 32 + (pages + 63) / 64 * 8
+
+abbrev pub storeSize : Geometry → ℕ
+storeSize g = front (g .pages) + g .size * 2 ^ g .e
+
+-- the geometry that these numbers say; the places of version 1 have 1,040 bytes
+abbrev pub geometry : ℕ → ℕ → ℕ → Geometry
+geometry e base pages = record { e = e; base = base; pages = pages; size = 1040 }
+
+abbrev pub stated : List ℕ → Geometry
+stated s = geometry (getD s 6 0) (doublewordAt s 8) (doublewordAt s 16)
+
+unfoldable pub isStore : List ℕ → Bool
+isStore s =
+    leb 32 (length s) && (eqb (doublewordAt s 0) (doublewordAt (signature (getD s 6 0)) 0)
+    && (inBounds (getD s 6 0) (doublewordAt s 8) (doublewordAt s 16) && eqb (length s) (storeSize (stated s))))
+
+-- the header check
+unfoldable pub opened : List ℕ → Opened
+opened s = cond (isStore s) (Sound (stated s)) NotAStore
+
+-- what the check leaves known; the calls' parts ask for it
+pub record Bounded (g : Geometry) : Type 0 where
+  pub few : g .e ≤ 14
+  pub some : 1 ≤ g .pages
+  pub most : g .pages ≤ 65536
+  pub aligned : g .base % 4096 ≡ 0
+  pub below : g .base + 4096 * g .pages ≤ 2 ^ 56
+  pub room : 16 ≤ g .size
+  pub small : g .size ≤ 4096
+
+pub record Fitting (g : Geometry) (s : List ℕ) : Type 0 where
+  pub bounds : Bounded g
+  pub size : length s ≡ storeSize g
+
+-- an address in memory, its page counted from the base, and its slot
+unfoldable pub holds : Geometry → ℕ → Bool
+holds g a = leb (g .base) a && ltb a (g .base + 4096 * g .pages)
+
+abbrev pub pageOf : Geometry → ℕ → ℕ
+pageOf g a = (a - g .base) / 4096
+
+abbrev pub slotOf : Geometry → ℕ → ℕ
+slotOf g a = a / 2 % 2 ^ g .e
+
+-- where the place of slot i begins
+abbrev pub placeAt : Geometry → ℕ → ℕ
+placeAt g i = front (g .pages) + g .size * i
+
+abbrev pub generationOf : List ℕ → ℕ
+generationOf s = doublewordAt s 24
+
+-- the generation one up, wrapping
+unfoldable pub bumped : List ℕ → List ℕ
+bumped s = patch s 24 (le 8 ((generationOf s + 1) % 2 ^ 64))

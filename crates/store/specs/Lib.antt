@@ -1,0 +1,3 @@
+-- What the bytes of a cache store mean.
+pub mod Layout
+pub mod Places

@@ -1,0 +1,52 @@
+-- Page bits and places.
+-- Assumes nothing.
+use Prim.Native.Nat.{ℕ, zero, suc, _+_, _-_, _*_, _/_, _%_, _^_}
+use mathlib.Core.Bool.{Bool, true, false, cond}
+use mathlib.Core.List.{List, [], _++_}
+use lib.Bits.{bitAnd, bitOr}
+use lib.Dec.{eqb}
+use lib.ListN.{length, getD, set, replicate}
+use Rattle.bits.specs.Bits.{bit}
+use Rattle.bits.specs.Bytes.{doublewordAt, part, patch}
+use Rattle.store.specs.Layout.{front}
+use Rattle.store.specs.declared.Geometry.{Geometry}
+use Rattle.store.specs.declared.Which.{Which}
+use Rattle.store.specs.declared.Which.the-variants.{EveryPlace, OnPage}
+
+-- bit p mod 8 of byte p / 8 of the bitmap
+unfoldable pub pageBit : List ℕ → ℕ → Bool
+pageBit s p = eqb (bit (getD s (32 + p / 8) 0) (p % 8)) 1
+
+-- a byte with bit k on or off
+unfoldable pub putBit : Bool → ℕ → ℕ → ℕ
+putBit true k x = bitOr x (2 ^ k)
+putBit false k x = bitAnd x (255 - 2 ^ k)
+
+unfoldable pub withBit : List ℕ → ℕ → Bool → List ℕ
+withBit s p on = set s (32 + p / 8) (putBit on (p % 8) (getD s (32 + p / 8) 0))
+
+-- an empty place of z bytes: eight address bytes of 255, and zeros
+unfoldable pub emptyPlace : ℕ → List ℕ
+emptyPlace z = replicate 8 255 ++ replicate (z - 8) 0
+
+-- the addresses whose places are to be emptied: all, or those in a page, which is counted from address 0
+abbrev pub concerns : Which → ℕ → Bool
+concerns EveryPlace a = true
+concerns (OnPage page) a = eqb (a / 4096) page
+
+unfoldable pub emptied : Which → List ℕ → List ℕ
+emptied w p = cond (concerns w (doublewordAt p 0)) (emptyPlace (length p)) p
+
+-- the first n places of z bytes from `first` on, one after the other, each as f makes it
+unfoldable pub eachPlace : (List ℕ → List ℕ) → ℕ → ℕ → ℕ → List ℕ → List ℕ
+eachPlace f first z zero s = s
+eachPlace f first z (suc n) s = patch (eachPlace f first z n s) (first + z * n) (f (part (eachPlace f first z n s) (first + z * n) z))
+
+-- n times the same
+unfoldable pub copies : ℕ → List ℕ → List ℕ
+copies zero p = []
+copies (suc n) p = p ++ copies n p
+
+-- a zero bitmap and empty places: all of a new or flushed store behind its header
+abbrev pub blank : Geometry → List ℕ
+blank g = replicate (front (g .pages) - 32) 0 ++ copies (2 ^ g .e) (emptyPlace (g .size))

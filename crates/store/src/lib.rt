@@ -1,0 +1,254 @@
+// The cache's store in lent bytes: its header, its page bitmap, its places. (block.rs, Slot and BlockCache's fields)
+ghost use mathlib.Core.Path.{_≡_};
+ghost use mathlib.Core.Bool.{true};
+ghost use mathlib.Core.List.{_++_};
+ghost use Prim.Native.Nat.{_+_, _-_, _*_, _/_, _%_, _^_, _≤_, _<_};
+ghost use lib.ListN.{length, take, replicate};
+ghost use Rattle.bits.specs.Bytes.{part, patch};
+ghost use Rattle.store.specs.Layout.{header, inBounds, front, storeSize, geometry, opened, Bounded, Fitting, holds, pageOf, slotOf, placeAt, generationOf, bumped};
+ghost use Rattle.store.specs.Places.{pageBit, putBit, withBit, emptyPlace, concerns, emptied, eachPlace, blank};
+use block::MAX_PAGES;
+use block::PAGE;
+use block::Slot;
+
+// What a store's header says.
+pub struct Geometry {
+    pub e: u64,
+    pub base: u64,
+    pub pages: u64,
+    pub size: usize,
+}
+
+// What the header check finds.
+pub enum Opened {
+    Sound(Geometry),
+    NotAStore,
+}
+
+// The bounds of document 01 on e and memory.
+pub fn in_bounds(e: u64, base: u64, pages: u64) -> bool
+    ensures { λ r. ⌜ r ≡ inBounds e base pages ⌝ }
+{
+    if 14 < e {
+        return false;
+    }
+    if MAX_PAGES < pages {
+        return false;
+    }
+    block::good_memory(PAGE * pages, base)
+}
+
+impl Geometry {
+    // The geometry that these numbers say, in version 1.
+    pub fn new(e: u64, base: u64, pages: u64) -> Self
+        ensures { λ r. ⌜ r ≡ geometry e base pages ⌝ }
+    {
+        Self {
+            e,
+            base,
+            pages,
+            size: Slot::LEN,
+        }
+    }
+
+    pub fn slots(self) -> usize
+        requires { ⌜ self .e ≤ 14 ⌝ }
+        ensures { λ r. ⌜ (r ≡ 2 ^ self .e) × ((1 ≤ r) × (r ≤ 16384)) ⌝ }
+    {
+        1usize << self.e
+    }
+
+    // Where the places begin.
+    pub fn front(self) -> usize
+        requires { ⌜ self .pages ≤ 65536 ⌝ }
+        ensures { λ r. ⌜ (r ≡ front (self .pages)) × (r ≤ 8224) ⌝ }
+    {
+        (32 + (self.pages + 63) / 64 * 8) as usize
+    }
+
+    // The store's length.
+    pub fn store_size(self) -> usize
+        requires { ⌜ Bounded self ⌝ }
+        ensures { λ r. ⌜ r ≡ storeSize self ⌝ }
+    {
+        self.front() + self.size * self.slots()
+    }
+
+    // Whether the address lies in memory.
+    pub fn holds(self, address: u64) -> bool
+        requires { ⌜ Bounded self ⌝ }
+        ensures { λ r. ⌜ r ≡ holds self address ⌝ }
+    {
+        if address < self.base {
+            return false;
+        }
+        address < self.base + PAGE * self.pages
+    }
+
+    // The page of an address in memory, counted from the base.
+    pub fn page(self, address: u64) -> u64
+        requires { ⌜ holds self address ≡ true ⌝ }
+        ensures { λ r. ⌜ (r ≡ pageOf self address) × (r < self .pages) ⌝ }
+    {
+        (address - self.base) / PAGE
+    }
+
+    // Where the place of the address's slot begins.
+    pub fn place(self, address: u64) -> usize
+        requires { ⌜ Bounded self ⌝ }
+        ensures { λ r. ⌜ r ≡ placeAt self (slotOf self address) ⌝ }
+    {
+        let slot = address / 2 % self.slots() as u64;
+        self.front() + self.size * slot as usize
+    }
+}
+
+// The header check: signature, bounds and length. Nothing else in the store is trusted.
+pub fn open(store: &[u8]) -> Opened
+    ensures { λ r. ⌜ r ≡ opened (now (store .entry)) ⌝ }
+{
+    if store.len() < 32 {
+        return Opened::NotAStore;
+    }
+    let e = store[6] as u64;
+    let base = bits::doubleword_at(store, 8);
+    let pages = bits::doubleword_at(store, 16);
+    if bits::doubleword_at(store, 0) != 0x1_0043_4256 + e * 0x1_0000_0000_0000 {
+        return Opened::NotAStore;
+    }
+    if in_bounds(e, base, pages) {
+        let g = Geometry::new(e, base, pages);
+        if store.len() == g.store_size() {
+            Opened::Sound(g)
+        } else {
+            Opened::NotAStore
+        }
+    } else {
+        Opened::NotAStore
+    }
+}
+
+fn mask(k: u64) -> u8
+    requires { ⌜ k < 8 ⌝ }
+    ensures { λ r. ⌜ (r ≡ 2 ^ k) × (1 ≤ r) ⌝ }
+{
+    1u8 << k
+}
+
+// Whether the page, counted from the base, has its bit set.
+pub fn page_bit(store: &[u8], page: u64) -> bool
+    requires { ⌜ 32 + page / 8 < length (now store) ⌝ }
+    ensures { λ r. ⌜ r ≡ pageBit (now (store .entry)) page ⌝ }
+{
+    let i = (32 + page / 8) as usize;
+    store[i] / mask(page % 8) % 2 == 1
+}
+
+fn put_bit(byte: u8, k: u64, on: bool) -> u8
+    requires { ⌜ k < 8 ⌝ }
+    ensures { λ r. ⌜ r ≡ putBit on k byte ⌝ }
+{
+    let m = mask(k);
+    if on { byte | m } else { byte & (255 - m) }
+}
+
+// The page's bit becomes `on`.
+pub fn set_bit(store: &mut [u8], page: u64, on: bool)
+    requires { ⌜ 32 + page / 8 < length (now store) ⌝ }
+    ensures { λ _. ⌜ now (store .exit) ≡ withBit (now (store .entry)) page on ⌝ }
+{
+    let i = (32 + page / 8) as usize;
+    store[i] = put_bit(store[i], page % 8, on);
+}
+
+// The generation goes one up.
+pub fn bump(store: &mut [u8])
+    requires { ⌜ 32 ≤ length (now store) ⌝ }
+    ensures { λ _. ⌜ now (store .exit) ≡ bumped (now (store .entry)) ⌝ }
+{
+    let generation = bits::doubleword_at(store, 24);
+    bits::put_doubleword(store, 24, std::num::wrapping_add_u64(generation, 1));
+}
+
+// Which places are emptied: all, or those with an address in a page, which is counted from address 0.
+pub enum Which {
+    EveryPlace,
+    OnPage(u64),
+}
+
+impl Which {
+    fn concerns(self, address: u64) -> bool
+        ensures { λ r. ⌜ r ≡ concerns self address ⌝ }
+    {
+        match self {
+            Self::EveryPlace => true,
+            Self::OnPage(page) => address / PAGE == page,
+        }
+    }
+}
+
+fn empty(place: &mut [u8])
+    requires { ⌜ 8 ≤ length (now place) ⌝ }
+    ensures { λ _. ⌜ now (place .exit) ≡ emptyPlace (length (now (place .entry))) ⌝ }
+{
+    bits::fill(place, 0);
+    bits::put_doubleword(place, 0, Slot::EMPTY);
+}
+
+fn empty_if(place: &mut [u8], which: Which)
+    requires { ⌜ 8 ≤ length (now place) ⌝ }
+    ensures { λ _. ⌜ now (place .exit) ≡ emptied which (now (place .entry)) ⌝ }
+{
+    if which.concerns(bits::doubleword_at(place, 0)) {
+        empty(place);
+    }
+}
+
+fn empty_at(store: &mut [u8], at: usize, size: usize, which: Which)
+    requires { ⌜ (8 ≤ size) × (at + size ≤ length (now store)) ⌝ }
+    ensures { λ _. ⌜ now (store .exit) ≡ patch (now (store .entry)) at (emptied which (part (now (store .entry)) at size)) ⌝ }
+{
+    empty_if(&mut store[at..at + size], which);
+}
+
+// Goes over n places of `size` bytes from `first` on.
+pub fn empty_places(store: &mut [u8], first: usize, size: usize, n: usize, which: Which)
+    requires { ⌜ (8 ≤ size) × (first + size * n ≤ length (now store)) ⌝ }
+    ensures { λ _. ⌜ now (store .exit) ≡ eachPlace (emptied which) first size n (now (store .entry)) ⌝ }
+{
+    let mut i = 0;
+    let mut at = first;
+    while i < n {
+        empty_at(store, at, size, which);
+        at += size;
+        i += 1;
+    }
+}
+
+fn clear_bits(store: &mut [u8], end: usize)
+    requires { ⌜ (32 ≤ end) × (end ≤ length (now store)) ⌝ }
+    ensures { λ _. ⌜ now (store .exit) ≡ patch (now (store .entry)) 32 (replicate (end - 32) 0) ⌝ }
+{
+    bits::fill(&mut store[32..end], 0);
+}
+
+// No bit set, all places empty; the header stays.
+pub fn wipe(store: &mut [u8], g: Geometry)
+    requires { ⌜ Fitting g (now store) ⌝ }
+    ensures { λ _. ⌜ now (store .exit) ≡ take 32 (now (store .entry)) ++ blank g ⌝ }
+{
+    let first = g.front();
+    clear_bits(store, first);
+    empty_places(store, first, g.size, g.slots(), Which::EveryPlace);
+}
+
+// The header of a new store.
+pub fn put_header(store: &mut [u8], g: Geometry)
+    requires { ⌜ (32 ≤ length (now store)) × (g .e ≤ 14) ⌝ }
+    ensures { λ _. ⌜ now (store .exit) ≡ patch (now (store .entry)) 0 (header g 1) ⌝ }
+{
+    bits::put_doubleword(store, 0, 0x1_0043_4256 + g.e * 0x1_0000_0000_0000);
+    bits::put_doubleword(store, 8, g.base);
+    bits::put_doubleword(store, 16, g.pages);
+    bits::put_doubleword(store, 24, 1);
+}
