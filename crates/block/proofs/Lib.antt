@@ -1,5 +1,6 @@
 -- Laws of block records.
 pub mod Head
+pub mod Places
 pub mod Tests
 pub mod Walk
 pub mod Zeros
