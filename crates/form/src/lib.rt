@@ -132,7 +132,13 @@ fn form_ops(s: &[u8], lent: &mut [u8]) -> BlockRecord
         let Fetched::Kept(op, ilen) = fetched else {
             return BlockRecord { count, len: at };
         };
-        op::write_op(lent, BlockRecord::HEAD + count * OpRecord::LEN, op, ilen, at as u16);
+        op::write_op(
+            lent,
+            BlockRecord::HEAD + count * OpRecord::LEN,
+            op,
+            ilen,
+            at as u16,
+        );
         count += 1;
         at += ilen as usize;
         if ends_block(op) {

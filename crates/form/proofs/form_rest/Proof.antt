@@ -2,7 +2,7 @@
 -- Assumes nothing.
 use mathlib.Core.Path.{sym, _∙_}
 use Rattle.form.specs.Forming.{rust, opsFrom}
-use Rattle.form.proofs.Seal.{refused}
+use Rattle.form.proofs.Seal.{refused, sealed}
 use borrow.Author.Needs.{needs}
 use Rattle.form.proofs.form_rest.Statement.{statement}
 use Rattle.form.proofs.form_rest.Tie as tie
@@ -19,4 +19,11 @@ form-rest-spec =
     (λ c. search needs) (λ c. search needs) (λ c. search needs) (λ c. search needs) (λ c. search needs) (λ c κs. search needs) (λ c. search needs)
     (λ c. search needs) (λ c κs. search needs) (λ c. search needs) (λ c. search needs) (λ c. search needs) (λ c. search needs) (λ c κs. search needs)
     (λ c. search needs)
-    (λ c. ?))
+    (λ c.
+    let made = c .before .before .before .before .before in
+    let filled = made .before .before .before in
+    let chosen = filled .before .before in
+    let ops = chosen .before .before .before .form-ops in
+    let start = chosen .before .before .before .before .before .before .before in
+    sealed (start .args .address) (opsFrom rust (start .args .s .now) 64 0) (start .args .lent .now) (ops .last .1 .0) (c .before .before .copy-all .last .1 .0) (filled .fill .last .0)
+    (ops .result .count) (ops .result .len) (chosen .if1 .left) (start .pre .1) (ops .ensures) (c .before .before .copy-all .ensures ∙ made .head-bytes .ensures) (filled .fill .ensures)))
