@@ -1,13 +1,14 @@
 -- What a well-formed record's header says, as facts; and with these facts the ops decide.
 -- Assumes nothing.
 use mathlib.Core.Path.{_≡_, refl}
-use mathlib.Core.Bool.{Bool, true, false, false≢true, _&&_}
+use mathlib.Core.Bool.{Bool, true, false}
 use mathlib.Core.List.{List}
 use Prim.Native.Nat.{ℕ, _+_, _%_, _≤_}
 use lib.ListN.{length, drop}
 use borrow.Author.Tests.{eqb-true, leb-true, eq-eqb, le-leb}
 use Rattle.bits.specs.Bytes.{halfwordAt, wordAt, doublewordAt}
 use Rattle.block.specs.WellFormed.{opsWellFormed, wellFormed}
+use Rattle.block.proofs.Tests.{both}
 
 pub record Head (s : List ℕ) (address : ℕ) : Type 0 where
   pub long : length s ≡ 1040
@@ -23,10 +24,6 @@ opsDecide s = opsWellFormed (drop 16 s) (halfwordAt s 8) 0 (halfwordAt s 10)
 pub decides : {s : List ℕ} {address : ℕ} → Head s address → wellFormed s address ≡ opsDecide s
 unfolding wellFormed
 decides h = rw (eq-eqb _ _ (h .long), eq-eqb _ _ (h .addressed), eq-eqb _ _ (h .zeros), le-leb _ _ (h .some), le-leb _ _ (h .few), le-leb _ _ (h .in-page))
-
-both : (a b : Bool) → (a && b) ≡ true → (a ≡ true) × (b ≡ true)
-both true b e = (refl, e)
-both false b e = absurd (false≢true e)
 
 pub says : {s : List ℕ} {address : ℕ} → wellFormed s address ≡ true → Head s address × (opsDecide s ≡ true)
 unfolding wellFormed

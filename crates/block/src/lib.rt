@@ -18,7 +18,7 @@ const TOP: u64 = 0x100_0000_0000_0000;
 // What the header of a block record says of its ops.
 pub struct BlockRecord {
     pub count: usize,
-    pub byte_len: usize,
+    pub len: usize,
 }
 
 impl BlockRecord {

@@ -1,0 +1,4 @@
+-- The ops that a block is formed of, and what the form call answers and leaves behind.
+pub mod Forming
+pub mod Written
+pub mod Call
