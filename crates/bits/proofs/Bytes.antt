@@ -83,7 +83,11 @@ patch-whole s p h =
     let b : length s ≤ 0 + length p = omega arith in
     rw (drop-of-length-le s b, append-nil p)
 
--- the lowest byte, and the bytes above it
+-- no bytes; the lowest byte, and the bytes above it
+pub le-zero : (x : ℕ) → le 0 x ≡ []
+unfolding le
+le-zero x = refl
+
 pub le-cons : (n b m : ℕ) {l : List ℕ} → b < 256 → le n m ≡ l → le (suc n) (b + 256 * m) ≡ b ∷ l
 unfolding le
 le-cons n b m h e =
