@@ -83,7 +83,18 @@ patch-whole s p h =
     let b : length s ≤ 0 + length p = omega arith in
     rw (drop-of-length-le s b, append-nil p)
 
--- the lowest byte, and the bytes above it
+-- the lowest of the bytes
+pub take-le : (n m x : ℕ) → n ≤ m → take n (le m x) ≡ le n x
+unfolding le
+take-le zero m x h = refl
+take-le (suc n) zero x h = absurd (omega arith)
+take-le (suc n) (suc m) x h = ap (λ (l : List ℕ). x % 256 ∷ l) (take-le n m (x / 256) (omega arith))
+
+-- no bytes; the lowest byte, and the bytes above it
+pub le-zero : (x : ℕ) → le 0 x ≡ []
+unfolding le
+le-zero x = refl
+
 pub le-cons : (n b m : ℕ) {l : List ℕ} → b < 256 → le n m ≡ l → le (suc n) (b + 256 * m) ≡ b ∷ l
 unfolding le
 le-cons n b m h e =

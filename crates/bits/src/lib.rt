@@ -85,7 +85,8 @@ pub fn doubleword_at(s: &[u8], at: usize) -> u64
     join_words(word_at(s, at), word_at(s, at + 4))
 }
 
-fn le_bytes(x: u64) -> [u8; 8]
+// The doubleword's bytes.
+pub fn le_bytes(x: u64) -> [u8; 8]
     ensures { λ r. ⌜ r ≡ le 8 x ⌝ }
 {
     [

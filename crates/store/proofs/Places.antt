@@ -9,7 +9,7 @@ use native.Mathlib.Nat.{mul-suc, mul-zero, add-zero, add-assoc}
 use lib.ListN.{length, take, drop, replicate, length-append, length-take, length-drop, length-replicate, take-append-drop, drop-of-length-le, replicate-append-replicate}
 use lib.Seq.{drop-drop, take-at, drop-at, take-append-le}
 use Rattle.bits.specs.Bytes.{le, part, patch, doublewordAt}
-use Rattle.bits.proofs.Bytes.{length-le, length-patch, length-part, le-cons, patch-behind, patch-append}
+use Rattle.bits.proofs.Bytes.{length-le, length-patch, length-part, le-zero, le-cons, patch-behind, patch-append}
 use Rattle.store.specs.Layout.{signature, header, front, storeSize, Fitting}
 use Rattle.store.specs.Places.{emptyPlace, concerns, emptied, eachPlace, copies, blank}
 use Rattle.store.proofs.Known.{signature-is}
@@ -161,4 +161,4 @@ header-made g s h l =
         (le-cons 4 0 version (omega arith)
         (le-cons 3 1 zero-top (omega arith)
         (le-cons 2 0 top (omega arith)
-        (le-cons 1 (g .e) 0 (omega arith) (le-cons 0 0 0 (omega arith) refl)))))))
+        (le-cons 1 (g .e) 0 (omega arith) (le-cons 0 0 0 (omega arith) (le-zero 0))))))))

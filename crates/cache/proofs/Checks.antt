@@ -1,0 +1,95 @@
+-- What an accepted call's checks have shown.
+-- Assumes nothing.
+use mathlib.Core.Path.{_≡_, refl, sym, ap, subst, _∙_}
+use mathlib.Core.Bool.{Bool, true, false, cond, _&&_}
+use mathlib.Core.List.{List}
+use Prim.Native.Nat.{ℕ, _+_, _*_, _≤_}
+use native.Mathlib.Omega.{arith}
+use lib.Dec.{eqb}
+use lib.ListN.{length, take, length-append}
+use lib.Seq.{take-at}
+use borrow.Author.Tests.{eqb-true}
+use Rattle.bits.specs.Bytes.{doublewordAt, patch}
+use Rattle.bits.proofs.Bytes.{length-le}
+use Rattle.block.specs.WellFormed.{wellFormed}
+use Rattle.store.specs.Layout.{header, inBounds, storeSize, geometry, opened, Fitting, holds, slotOf}
+use Rattle.store.specs.declared.Geometry.{Geometry}
+use Rattle.store.specs.declared.Opened.{Opened}
+use Rattle.store.specs.declared.Opened.the-variants.{Sound, NotAStore}
+use Rattle.store.proofs.Known.{bounds-are, Known, opened-says, place-fits, slot-lt}
+use Rattle.cache.specs.Calls.{makeJudged, mayHold, placeOf, found, lookupCall, insertJudged}
+use Rattle.cache.specs.declared.Refusal.the-variants.{NoStore, BadGeometry, OutsideMemory, IllFormed, WrongRecordBuffer, NothingFound}
+use Rattle.cache.specs.declared.LookupAnswer.the-variants.{Hit, LookupRefused}
+use Rattle.cache.specs.declared.Judged.{Judged}
+use Rattle.cache.specs.declared.Judged.the-variants.{Accepted, Rejected}
+
+module _ (e base pages : ℕ) (s : List ℕ) (g : Geometry) where
+  pub make-fits : makeJudged e base pages (length s) ≡ Accepted g → Fitting g s
+  make-fits h = go (inBounds e base pages) refl (eqb (length s) (storeSize (geometry e base pages))) refl h
+    where
+      go : (x : Bool) → inBounds e base pages ≡ x → (y : Bool) → eqb (length s) (storeSize (geometry e base pages)) ≡ y → cond x (cond y (Accepted (geometry e base pages)) (Rejected NoStore)) (Rejected BadGeometry) ≡ Accepted g → Fitting g s
+      go true ex true ey k =
+          let q : geometry e base pages ≡ g = cc in
+          subst (λ (z : Geometry). Fitting z s) q (record { bounds = bounds-are e base pages ex; size = eqb-true _ _ ey })
+      go true ex false ey k = absurd (let z : _≡_ {A = ℕ} 0 1 = cc in omega arith)
+      go false ex y ey k = absurd (let z : _≡_ {A = ℕ} 0 1 = cc in omega arith)
+
+pub opened-fits : (s : List ℕ) (g : Geometry) → opened s ≡ Sound g → Fitting g s
+opened-fits s g h = opened-says s g h .fitting
+
+-- the places of version 1
+pub opened-size : (s : List ℕ) (g : Geometry) → opened s ≡ Sound g → 1040 ≡ g .size
+opened-size s g h = ap (λ (z : Geometry). z .size) (opened-says s g h .is)
+
+-- the place of an address's slot lies within the store
+pub slot-fits : (g : Geometry) (s : List ℕ) (a : ℕ) → Fitting g s → placeOf g a + g .size ≤ length s
+slot-fits g s a f = place-fits g s (slotOf g a) f (slot-lt g a)
+
+pub may-holds : (g : Geometry) (a : ℕ) → mayHold g a ≡ true → holds g a ≡ true
+unfolding holds
+may-holds g a h = h
+
+-- an insertion that is accepted
+pub record Taken (s : List ℕ) (a : ℕ) (rec : List ℕ) (g : Geometry) : Type 0 where
+  pub sound : opened s ≡ Sound g
+  pub whole : length rec ≡ 1040
+  pub inner : mayHold g a ≡ true
+  pub formed : wellFormed rec a ≡ true
+
+module _ (s : List ℕ) (a : ℕ) (rec : List ℕ) (g : Geometry) where
+  pub insert-taken : insertJudged (opened s) a rec ≡ Accepted g → Taken s a rec g
+  insert-taken h = go (opened s) refl h
+    where
+      tests : (k : Geometry) → opened s ≡ Sound k → (x y z : Bool) → eqb (length rec) 1040 ≡ x → mayHold k a ≡ y → wellFormed rec a ≡ z → cond x (cond y (cond z (Accepted k) (Rejected IllFormed)) (Rejected OutsideMemory)) (Rejected WrongRecordBuffer) ≡ Accepted g → Taken s a rec g
+      tests k e true true true ex ey ez q =
+          let w : k ≡ g = cc in
+          subst (λ (z : Geometry). opened s ≡ Sound z → mayHold z a ≡ true → Taken s a rec g) (sym w)
+          (λ p r. record { sound = p; whole = eqb-true _ _ ex; inner = r; formed = ez }) e ey
+      tests k e true true false ex ey ez q = absurd (let z : _≡_ {A = ℕ} 0 1 = cc in omega arith)
+      tests k e true false z ex ey ez q = absurd (let z : _≡_ {A = ℕ} 0 1 = cc in omega arith)
+      tests k e false y z ex ey ez q = absurd (let z : _≡_ {A = ℕ} 0 1 = cc in omega arith)
+
+      go : (o : Opened) → opened s ≡ o → insertJudged o a rec ≡ Accepted g → Taken s a rec g
+      go (Sound k) e q = tests k e (eqb (length rec) 1040) (mayHold k a) (wellFormed rec a) refl refl refl q
+      go NotAStore e q = absurd (let z : _≡_ {A = ℕ} 0 1 = cc in omega arith)
+
+-- a hit lies within the store
+module _ (s : List ℕ) (a at n : ℕ) where
+  pub hit-fits : lookupCall s a ≡ Hit at n → at + n ≤ length s
+  hit-fits h = go (opened s) refl h
+    where
+      tests : (g : Geometry) → opened s ≡ Sound g → (b : Bool) → cond b (Hit (placeOf g a) (g .size)) (LookupRefused NothingFound) ≡ Hit at n → at + n ≤ length s
+      tests g e true q =
+          let p : placeOf g a ≡ at = cc in
+          let z : g .size ≡ n = cc in
+          rw (p, z) at (slot-fits g s a (opened-fits s g e))
+      tests g e false q = absurd (let z : _≡_ {A = ℕ} 0 1 = cc in omega arith)
+
+      go : (o : Opened) → opened s ≡ o → found o s a ≡ Hit at n → at + n ≤ length s
+      go (Sound g) e q = tests g e (mayHold g a && eqb (doublewordAt s (placeOf g a)) a) q
+      go NotAStore e q = absurd (let z : _≡_ {A = ℕ} 0 1 = cc in omega arith)
+
+-- a header that was written is what a new store keeps
+pub new-front : (g : Geometry) (s : List ℕ) → take 32 (patch s 0 (header g 1)) ≡ header g 1
+unfolding patch
+new-front g s = take-at (header g 1) _ 32 (simp (length-append, length-le))

@@ -1,0 +1,40 @@
+-- `cache::insert_in` meets its contract: the bit, the generation, and the place that is lent.
+-- Assumes nothing.
+use mathlib.Core.Path.{_≡_, sym, _∙_}
+use native.Mathlib.Omega.{arith}
+use lib.ListN.{length}
+use Rattle.bits.proofs.Bytes.{put-back}
+use Rattle.cache.specs.Calls.{insertedIn, placeOf}
+use Rattle.cache.proofs.Checks.{may-holds, slot-fits}
+use borrow.Author.Needs.{needs}
+use Rattle.cache.proofs.insert_in.Statement.{statement}
+use Rattle.cache.proofs.insert_in.Tie as tie
+
+returned : tie.Need-returns
+unfolding insertedIn
+returned c =
+    let bump = c .before .before .before .before .before .before in
+    let set = bump .before .before .before .before in
+    let place = set .before .before .before in
+    let start = place .before .before .before in
+    put-back (bump .bump .last .0) (place .place .result) (start .args .g .size) _ (start .args .«record» .now) (c .before .before .write-record .ensures) (start .pre .1 .1)
+    ∙ rw (bump .bump .ensures, set .set-bit .ensures, set .before .page .ensures .0, place .place .ensures)
+
+pub insert-in-spec : {M : Type 1} → statement M
+insert-in-spec =
+    tie.close
+    (tie.spec
+    (λ c κs. search needs)
+    (λ c κs. may-holds _ _ (c .before .before .before .before .pre .1 .0))
+    (λ c κs. search needs) (λ c κs. search needs)
+    (λ c.
+    let start = c .before .before .before .before .before .before .before .before .before .before .before .before in
+    let w = slot-fits (start .args .g) (start .args .store .now) (start .args .address) (start .pre .0) in
+    omega (arith, c .before .before .before .before .before .before .before .before .before .place .ensures))
+    (λ c. search needs) (λ c. search needs)
+    (λ c.
+    let start = c .before .before .before .before .before .before .before .before .before .before .before .before in
+    let w = slot-fits (start .args .g) (start .args .store .now) (start .args .address) (start .pre .0) in
+    omega (arith, c .before .before .before .before .before .before .before .before .before .place .ensures, c .before .before .before .before .before .before .set-bit .kept .0, c .before .before .bump .kept .0))
+    (λ c κs. search needs) (λ c. search needs)
+    (λ c. returned c))

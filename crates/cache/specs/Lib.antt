@@ -1,0 +1,3 @@
+-- What the cache's calls answer and leave behind.
+pub mod Answers
+pub mod Calls

@@ -1,0 +1,376 @@
+// The block cache: calls on one lent store. (block.rs, BlockCache)
+ghost use mathlib.Core.Path.{_≡_};
+ghost use mathlib.Core.Bool.{true};
+ghost use mathlib.Core.List.{_++_};
+ghost use Prim.Native.Nat.{_+_, _*_, _≤_};
+ghost use lib.ListN.{length, take};
+ghost use Rattle.store.specs.Layout.{header, opened, Bounded, Fitting, holds};
+ghost use Rattle.store.specs.Places.{blank};
+ghost use Rattle.cache.specs.Answers.{refusalNumber, makeNumber, lookupNumber, lookupValue, insertNumber, noticeNumber, noticeValue, flushNumber, generationNumber, generationValue};
+ghost use Rattle.cache.specs.Calls.{makeJudged, makeCall, mayHold, placeOf, lookupCall, shown, insertJudged, insertedIn, insertCall, watched, evicted, noticedIn, noticeCall, flushCall, generationCall};
+use block::BlockRecord;
+use block::PAGE;
+use store::Geometry;
+use store::Opened;
+use store::Which;
+
+// Why a call is refused. No refusal changes a lent byte.
+pub enum Refusal {
+    NoStore,
+    BadGeometry,
+    OutsideMemory,
+    IllFormed,
+    WrongRecordBuffer,
+    WrongWriteSize,
+    NothingFound,
+}
+
+// What the checks of a call come to. A call decides first and writes then.
+pub enum Judged {
+    Accepted(Geometry),
+    Rejected(Refusal),
+}
+
+// What a notice did: the slots it examined.
+pub struct Report {
+    pub examined: u64,
+}
+
+pub enum MakeAnswer {
+    Made,
+    MakeRefused(Refusal),
+}
+
+pub enum LookupAnswer {
+    Hit { at: usize, size: usize },
+    LookupRefused(Refusal),
+}
+
+pub enum InsertAnswer {
+    Inserted,
+    InsertRefused(Refusal),
+}
+
+pub enum NoticeAnswer {
+    Noticed(Report),
+    NoticeRefused(Refusal),
+}
+
+pub enum FlushAnswer {
+    Flushed,
+    FlushRefused(Refusal),
+}
+
+pub enum GenerationAnswer {
+    GenerationIs(u64),
+    GenerationRefused(Refusal),
+}
+
+impl Refusal {
+    // Document 01's number.
+    pub fn number(self) -> u64
+        ensures { λ r. ⌜ r ≡ refusalNumber self ⌝ }
+    {
+        match self {
+            Self::NoStore => 1,
+            Self::BadGeometry => 2,
+            Self::OutsideMemory => 3,
+            Self::IllFormed => 5,
+            Self::WrongRecordBuffer => 6,
+            Self::WrongWriteSize => 8,
+            Self::NothingFound => 9,
+        }
+    }
+}
+
+impl MakeAnswer {
+    pub fn number(self) -> u64
+        ensures { λ r. ⌜ r ≡ makeNumber self ⌝ }
+    {
+        match self {
+            Self::Made => 0,
+            Self::MakeRefused(why) => why.number(),
+        }
+    }
+}
+
+impl LookupAnswer {
+    pub fn number(self) -> u64
+        ensures { λ r. ⌜ r ≡ lookupNumber self ⌝ }
+    {
+        match self {
+            Self::Hit { at: _, size: _ } => 0,
+            Self::LookupRefused(why) => why.number(),
+        }
+    }
+
+    // Where in the store the part begins.
+    pub fn value(self) -> u64
+        ensures { λ r. ⌜ r ≡ lookupValue self ⌝ }
+    {
+        match self {
+            Self::Hit { at, size: _ } => at as u64,
+            Self::LookupRefused(_) => 0,
+        }
+    }
+}
+
+impl InsertAnswer {
+    pub fn number(self) -> u64
+        ensures { λ r. ⌜ r ≡ insertNumber self ⌝ }
+    {
+        match self {
+            Self::Inserted => 0,
+            Self::InsertRefused(why) => why.number(),
+        }
+    }
+}
+
+impl NoticeAnswer {
+    pub fn number(self) -> u64
+        ensures { λ r. ⌜ r ≡ noticeNumber self ⌝ }
+    {
+        match self {
+            Self::Noticed(_) => 0,
+            Self::NoticeRefused(why) => why.number(),
+        }
+    }
+
+    // The slots examined.
+    pub fn value(self) -> u64
+        ensures { λ r. ⌜ r ≡ noticeValue self ⌝ }
+    {
+        match self {
+            Self::Noticed(report) => report.examined,
+            Self::NoticeRefused(_) => 0,
+        }
+    }
+}
+
+impl FlushAnswer {
+    pub fn number(self) -> u64
+        ensures { λ r. ⌜ r ≡ flushNumber self ⌝ }
+    {
+        match self {
+            Self::Flushed => 0,
+            Self::FlushRefused(why) => why.number(),
+        }
+    }
+}
+
+impl GenerationAnswer {
+    pub fn number(self) -> u64
+        ensures { λ r. ⌜ r ≡ generationNumber self ⌝ }
+    {
+        match self {
+            Self::GenerationIs(_) => 0,
+            Self::GenerationRefused(why) => why.number(),
+        }
+    }
+
+    pub fn value(self) -> u64
+        ensures { λ r. ⌜ r ≡ generationValue self ⌝ }
+    {
+        match self {
+            Self::GenerationIs(n) => n,
+            Self::GenerationRefused(_) => 0,
+        }
+    }
+}
+
+fn judge_make(e: u64, base: u64, pages: u64, size: usize) -> Judged
+    ensures { λ r. ⌜ r ≡ makeJudged e base pages size ⌝ }
+{
+    if store::in_bounds(e, base, pages) {
+        let g = Geometry::new(e, base, pages);
+        if size == g.store_size() {
+            Judged::Accepted(g)
+        } else {
+            Judged::Rejected(Refusal::NoStore)
+        }
+    } else {
+        Judged::Rejected(Refusal::BadGeometry)
+    }
+}
+
+fn make_new(store: &mut [u8], g: Geometry)
+    requires { ⌜ Fitting g (now store) ⌝ }
+    ensures { λ _. ⌜ now (store .exit) ≡ header g 1 ++ blank g ⌝ }
+{
+    store::put_header(store, g);
+    store::wipe(store, g);
+}
+
+// A new store over the lent bytes, whatever they were.
+pub fn make(store: &mut [u8], e: u64, base: u64, pages: u64) -> MakeAnswer
+    ensures { λ r. ⌜ (r, now (store .exit)) ≡ makeCall e base pages (now (store .entry)) ⌝ }
+{
+    match judge_make(e, base, pages, store.len()) {
+        Judged::Accepted(g) => {
+            make_new(store, g);
+            MakeAnswer::Made
+        }
+        Judged::Rejected(why) => MakeAnswer::MakeRefused(why),
+    }
+}
+
+fn may_hold(g: Geometry, address: u64) -> bool
+    requires { ⌜ Bounded g ⌝ }
+    ensures { λ r. ⌜ r ≡ mayHold g address ⌝ }
+{
+    block::can_hold(PAGE * g.pages, g.base, address)
+}
+
+// Where the block at the address is, if the cache has it.
+pub fn find(store: &[u8], address: u64) -> LookupAnswer
+    ensures { λ r. ⌜ r ≡ lookupCall (now (store .entry)) address ⌝ }
+{
+    let Opened::Sound(g) = store::open(store) else {
+        return LookupAnswer::LookupRefused(Refusal::NoStore);
+    };
+    if may_hold(g, address) {
+        let at = g.place(address);
+        if bits::doubleword_at(store, at) == address {
+            LookupAnswer::Hit { at, size: g.size }
+        } else {
+            LookupAnswer::LookupRefused(Refusal::NothingFound)
+        }
+    } else {
+        LookupAnswer::LookupRefused(Refusal::NothingFound)
+    }
+}
+
+// The place of the block at the address, as a part of the store, or an empty part.
+pub fn lookup(store: &[u8], address: u64) -> &[u8]
+    ensures { λ r. ⌜ now r ≡ shown (now (store .entry)) (lookupCall (now (store .entry)) address) ⌝ }
+{
+    match find(store, address) {
+        LookupAnswer::Hit { at, size } => &store[at..at + size],
+        LookupAnswer::LookupRefused(_) => &store[..0],
+    }
+}
+
+// All places empty, no bit set.
+pub fn flush(store: &mut [u8]) -> FlushAnswer
+    ensures { λ r. ⌜ (r, now (store .exit)) ≡ flushCall (now (store .entry)) ⌝ }
+{
+    match store::open(store) {
+        Opened::Sound(g) => {
+            store::wipe(store, g);
+            FlushAnswer::Flushed
+        }
+        Opened::NotAStore => FlushAnswer::FlushRefused(Refusal::NoStore),
+    }
+}
+
+// How many insertions there were, wrapping.
+pub fn generation(store: &[u8]) -> GenerationAnswer
+    ensures { λ r. ⌜ r ≡ generationCall (now (store .entry)) ⌝ }
+{
+    match store::open(store) {
+        Opened::Sound(_) => GenerationAnswer::GenerationIs(bits::doubleword_at(store, 24)),
+        Opened::NotAStore => GenerationAnswer::GenerationRefused(Refusal::NoStore),
+    }
+}
+
+fn watched(store: &[u8], g: Geometry, address: u64) -> bool
+    requires { ⌜ Fitting g (now store) ⌝ }
+    ensures { λ r. ⌜ r ≡ watched g (now (store .entry)) address ⌝ }
+{
+    if g.holds(address) {
+        store::page_bit(store, g.page(address))
+    } else {
+        false
+    }
+}
+
+fn evict(store: &mut [u8], g: Geometry, address: u64)
+    requires { ⌜ Fitting g (now store) × (holds g address ≡ true) ⌝ }
+    ensures { λ _. ⌜ now (store .exit) ≡ evicted g (now (store .entry)) address ⌝ }
+{
+    store::set_bit(store, g.page(address), false);
+    store::empty_places(
+        store,
+        g.front(),
+        g.size,
+        g.slots(),
+        Which::OnPage(address / PAGE),
+    );
+}
+
+// A notice in a store whose header was checked.
+pub fn notice_in(store: &mut [u8], g: Geometry, address: u64) -> Report
+    requires { ⌜ Fitting g (now store) ⌝ }
+    ensures { λ r. ⌜ (r, now (store .exit)) ≡ noticedIn g (now (store .entry)) address ⌝ }
+{
+    if watched(store, g, address) {
+        evict(store, g, address);
+        Report {
+            examined: g.slots() as u64,
+        }
+    } else {
+        Report { examined: 0 }
+    }
+}
+
+// A write at the address is to come or was done.
+pub fn notice(store: &mut [u8], address: u64) -> NoticeAnswer
+    ensures { λ r. ⌜ (r, now (store .exit)) ≡ noticeCall (now (store .entry)) address ⌝ }
+{
+    match store::open(store) {
+        Opened::Sound(g) => NoticeAnswer::Noticed(notice_in(store, g, address)),
+        Opened::NotAStore => NoticeAnswer::NoticeRefused(Refusal::NoStore),
+    }
+}
+
+fn judge_insert(store: &[u8], address: u64, record: &[u8]) -> Judged
+    ensures { λ r. ⌜ r ≡ insertJudged (opened (now (store .entry))) address (now («record» .entry)) ⌝ }
+{
+    let Opened::Sound(g) = store::open(store) else {
+        return Judged::Rejected(Refusal::NoStore);
+    };
+    if record.len() != BlockRecord::LEN {
+        return Judged::Rejected(Refusal::WrongRecordBuffer);
+    }
+    if may_hold(g, address) {
+        if block::well_formed(record, address) {
+            Judged::Accepted(g)
+        } else {
+            Judged::Rejected(Refusal::IllFormed)
+        }
+    } else {
+        Judged::Rejected(Refusal::OutsideMemory)
+    }
+}
+
+// The record writer: the slot's place is lent to it.
+fn write_record(place: &mut [u8], record: &[u8])
+    requires { ⌜ length (now place) ≡ length (now «record») ⌝ }
+    ensures { λ _. ⌜ now (place .exit) ≡ now («record» .entry) ⌝ }
+{
+    bits::copy_all(record, place);
+}
+
+fn insert_in(store: &mut [u8], g: Geometry, address: u64, record: &[u8])
+    requires { ⌜ Fitting g (now store) × ((mayHold g address ≡ true) × (length (now «record») ≡ g .size)) ⌝ }
+    ensures { λ _. ⌜ now (store .exit) ≡ insertedIn g (now (store .entry)) address (now («record» .entry)) ⌝ }
+{
+    let at = g.place(address);
+    let size = g.size;
+    store::set_bit(store, g.page(address), true);
+    store::bump(store);
+    write_record(&mut store[at..at + size], record);
+}
+
+// The record into the place of its slot.
+pub fn insert(store: &mut [u8], address: u64, record: &[u8]) -> InsertAnswer
+    ensures { λ r. ⌜ (r, now (store .exit)) ≡ insertCall (now (store .entry)) address (now («record» .entry)) ⌝ }
+{
+    match judge_insert(store, address, record) {
+        Judged::Accepted(g) => {
+            insert_in(store, g, address, record);
+            InsertAnswer::Inserted
+        }
+        Judged::Rejected(why) => InsertAnswer::InsertRefused(why),
+    }
+}
