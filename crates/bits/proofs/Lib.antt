@@ -2,4 +2,5 @@
 pub mod Bytes
 pub mod Cases
 pub mod Every
+pub mod Once
 pub mod Sign
