@@ -3,6 +3,7 @@ pub mod Bit
 pub mod Bytes
 pub mod Cases
 pub mod Every
+pub mod Once
 pub mod Shift
 pub mod Sign
 pub mod Signed

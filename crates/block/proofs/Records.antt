@@ -1,13 +1,24 @@
--- Laws of a block's record.
+-- The record of ops that are well formed where they stand is well formed.
 -- Assumes nothing.
-use mathlib.Core.Path.{_≡_, refl, ap, _∙_}
-use mathlib.Core.List.{List, [], _∷_}
-use Prim.Native.Nat.{ℕ, suc, _+_, _*_}
+use mathlib.Core.Path.{_≡_, refl, sym, ap, _∙_}
+use mathlib.Core.Bool.{true, _||_, not}
+use mathlib.Core.List.{List, [], _∷_, _++_, append-assoc}
+use Prim.Native.Nat.{ℕ, suc, _+_, _-_, _*_, _%_, _^_, _≤_, _<_}
 use native.Mathlib.Omega.{arith}
-use lib.ListN.{length, length-append}
-use Rattle.op.specs.Record.{opRecord}
+use native.Mathlib.Nat.{mod-eq-of-lt}
+use lib.Dec.{eqb}
+use lib.ListN.{length, drop, replicate, length-append, length-replicate}
+use lib.Seq.{take-at, drop-at}
+use borrow.Author.Tests.{eq-eqb}
+use Rattle.bits.specs.Bytes.{le, halfwordAt}
+use Rattle.bits.proofs.Bytes.{length-le, halfword-le, word-le, doubleword-le}
+use Rattle.op.specs.Record.{opFields, opRecord}
+use Rattle.op.specs.WellFormed.{opWellFormed}
+use Rattle.op.specs.declared.Op.{Op}
 use Rattle.op.proofs.Record.{length-record}
-use Rattle.block.specs.Record.{Insn, insn, opRecords}
+use Rattle.block.specs.Record.{Insn, insn, headBytes, opRecords, byteLen, blockRecord}
+use Rattle.block.specs.WellFormed.{jumps, placed, opsWellFormed, wellFormed}
+use Rattle.block.proofs.Head.{Head, decides}
 
 pub length-op-records : (at : ℕ) (ops : List Insn) → length (opRecords at ops) ≡ 16 * length ops
 unfolding opRecords
@@ -18,3 +29,36 @@ length-op-records at (insn op ilen ∷ rest) =
     ∙ ap (λ (n : ℕ). n + length (opRecords (at + ilen) rest)) (length-record op ilen at)
     ∙ ap (λ (n : ℕ). 16 + n) (length-op-records (at + ilen) rest)
     ∙ more
+
+-- the walk passes an op that is well formed where it stands
+pub walk-record : (op : Op) (ilen at : ℕ) (rest : List Insn) (tail : List ℕ) (len : ℕ) → opWellFormed (opRecord op ilen at) ≡ true → at < 2 ^ 16
+    → (eqb (length rest) 0 || not (jumps (opFields op .op))) ≡ true
+    → opsWellFormed (opRecords at (insn op ilen ∷ rest) ++ tail) (suc (length rest)) at len ≡ opsWellFormed (opRecords (at + ilen) rest ++ tail) (length rest) (at + ilen) len
+unfolding opRecords opsWellFormed placed le
+walk-record op ilen at rest tail len w h j =
+    let off : halfwordAt (le 2 at) 0 ≡ at = halfword-le at [] ∙ mod-eq-of-lt h in
+    rw (w, eq-eqb _ _ off, j)
+
+module _ (address : ℕ) (ops : List Insn) (a : address < 2 ^ 64) (some : 1 ≤ length ops) (few : length ops ≤ 64) (b : address % 4096 + byteLen ops ≤ 4096) where
+  record-head : Head (blockRecord address ops) address
+  unfolding blockRecord le
+  record-head =
+      let rest = opRecords 0 ops ++ replicate (1024 - 16 * length ops) 0 in
+      let count : halfwordAt (le 2 (length ops)) 0 ≡ length ops = halfword-le (length ops) [] ∙ mod-eq-of-lt (omega arith) in
+      let len : halfwordAt (le 2 (byteLen ops)) 0 ≡ byteLen ops = halfword-le (byteLen ops) [] ∙ mod-eq-of-lt (omega arith) in
+      let long : length rest ≡ 1024 = length-append (opRecords 0 ops) (replicate (1024 - 16 * length ops) 0) ∙ omega (arith, length-op-records 0 ops, length-replicate {A = ℕ} (1024 - 16 * length ops) 0) in
+      record {
+        long = omega arith;
+        addressed = doubleword-le address [] ∙ mod-eq-of-lt a;
+        zeros = refl;
+        some = rw count some;
+        few = rw count few;
+        in-page = rw len b;
+      }
+
+  pub record-well : opsWellFormed (opRecords 0 ops ++ replicate (1024 - 16 * length ops) 0) (length ops) 0 (byteLen ops) ≡ true → wellFormed (blockRecord address ops) address ≡ true
+  unfolding blockRecord le
+  record-well w =
+      let count : halfwordAt (le 2 (length ops)) 0 ≡ length ops = halfword-le (length ops) [] ∙ mod-eq-of-lt (omega arith) in
+      let len : halfwordAt (le 2 (byteLen ops)) 0 ≡ byteLen ops = halfword-le (byteLen ops) [] ∙ mod-eq-of-lt (omega arith) in
+      decides record-head ∙ rw (count, len) w
