@@ -1,7 +1,7 @@
 //! The ALU: every kind that is kept, on edges crossed and on random operands of every magnitude; and the kinds that are refused.
-use crate::random::Random;
 use crate::{Plan, Tally};
 use oracle::block::{self, AluKind};
+use oracle::random::Random;
 use unvriscol::door::{Answer, uv_alu};
 
 /// The kinds that are kept, in the original's order with their numbers.

@@ -1,8 +1,8 @@
 //! Words and halfwords: the number, the record byte for byte, and the bytes before and behind it, which stay.
-use crate::random::Random;
 use crate::record::{self, LEN};
 use crate::{Plan, Tally};
 use oracle::block::{self, Op};
+use oracle::random::Random;
 use unvriscol::door::{uv_decode_halfword, uv_decode_word};
 
 /// A decode call on a lent buffer.

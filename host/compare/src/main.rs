@@ -9,7 +9,6 @@
 //! Each part is a module with a `run`. The exit status is 1 where anything differs.
 mod alu;
 mod decode;
-mod random;
 mod record;
 mod tally;
 mod typed;

@@ -1,7 +1,7 @@
 //! The safe crate's enums: the same names and fields as the original's, seen by what both print, and records there and back.
-use crate::random::Random;
 use crate::{Plan, Tally};
 use oracle::block::{self, Op};
+use oracle::random::Random;
 use unvriscol::{DecodedInsn, Error, decode_halfword, decode_word};
 
 fn one(

@@ -1,5 +1,7 @@
 //! The original Rust as the judge of every answer. Its files are included from the checkout as they stand. Modules that the checkout given to
-//! us lacks, and `execute`, which needs them, have stand-ins with what the included files name.
+//! us lacks, and `execute`, which needs them, have stand-ins with what the included files name. `random` is ours: the numbers that comparison and
+//! benchmark put to both sides.
+pub mod random;
 
 // block.rs names the hash map by its crate.
 extern crate self as rustc_hash;
