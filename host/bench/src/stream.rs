@@ -46,7 +46,7 @@ pub fn made(count: usize, random: &mut Random) -> (Vec<u32>, Vec<u16>) {
             loop {
                 let raw = random.next() as u16;
                 // One in fifty stays as it was drawn, with an op or without.
-                if block::halfword(raw).is_some() || random.below(50) == 0 {
+                if (block::HALFWORD)(raw).is_some() || random.below(50) == 0 {
                     break raw;
                 }
             }

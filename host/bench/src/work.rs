@@ -46,8 +46,8 @@ impl Work {
     /// Makes every call once.
     pub fn pass(&self, side: Side) -> u64 {
         match (&self.calls, side) {
-            (Calls::Words(calls), Side::Rust) => decoded(calls, block::word),
-            (Calls::Halfwords(calls), Side::Rust) => decoded(calls, block::halfword),
+            (Calls::Words(calls), Side::Rust) => decoded(calls, block::WORD),
+            (Calls::Halfwords(calls), Side::Rust) => decoded(calls, block::HALFWORD),
             (Calls::Words(calls), Side::Ours) => recorded(calls, uv_decode_word),
             (Calls::Halfwords(calls), Side::Ours) => recorded(calls, uv_decode_halfword),
             (Calls::Alu(calls), Side::Rust) => {

@@ -16,7 +16,7 @@ impl Call for u32 {
     const ILEN: u8 = 4;
     #[inline(always)]
     fn original(self) -> Option<Op> {
-        block::word(self)
+        (block::WORD)(self)
     }
     #[inline(always)]
     fn ours(self, lent: &mut [u8]) -> u64 {
@@ -29,7 +29,7 @@ impl Call for u16 {
     const ILEN: u8 = 2;
     #[inline(always)]
     fn original(self) -> Option<Op> {
-        block::halfword(self)
+        (block::HALFWORD)(self)
     }
     #[inline(always)]
     fn ours(self, lent: &mut [u8]) -> u64 {

@@ -30,7 +30,7 @@ pub fn run(plan: &Plan, tally: &mut Tally) {
         one(
             raw.into(),
             2,
-            block::halfword(raw),
+            (block::HALFWORD)(raw),
             decode_halfword(raw),
             tally,
         );
@@ -38,6 +38,6 @@ pub fn run(plan: &Plan, tally: &mut Tally) {
     let mut random = Random::new(plan.seed, 4);
     for _ in 0..if plan.all { 10_000_000 } else { 1_000_000 } {
         let raw = random.next() as u32 | 3;
-        one(raw, 4, block::word(raw), decode_word(raw), tally);
+        one(raw, 4, (block::WORD)(raw), decode_word(raw), tally);
     }
 }

@@ -9,11 +9,11 @@ pub type FxHashMap<K, V> = std::collections::HashMap<K, V>;
 
 /// A module of the original, whole and unchanged, with what stands behind it to reach its private parts.
 macro_rules! original {
-    ($module:ident, $file:literal $(, $item:item)*) => {
+    ($module:ident, $file:literal $(; $($item:item)*)?) => {
         #[allow(dead_code, unexpected_cfgs)]
         pub mod $module {
             include!(concat!(env!("VPOD_SOURCE"), "/", $file));
-            $($item)*
+            $($($item)*)?
         }
     };
 }
@@ -24,25 +24,19 @@ original!(gpr, "gpr.rs");
 original!(mmu, "mmu.rs");
 original!(system_bus, "system_bus.rs");
 original!(trap, "trap.rs");
-original!(
-    block,
-    "block.rs",
-    /// `decode_full`, which is private. Not inlined, as a C function is not.
-    #[inline(never)]
-    pub fn word(raw: u32) -> Option<Op> {
-        decode_full(raw)
-    },
+original! {
+    block, "block.rs";
+
+    /// `decode_full`, which is private.
+    pub const WORD: fn(u32) -> Option<Op> = decode_full;
     /// `decode_compressed`, which is private.
-    #[inline(never)]
-    pub fn halfword(raw: u16) -> Option<Op> {
-        decode_compressed(raw)
-    },
-    /// `alu`, which the original inlines.
+    pub const HALFWORD: fn(u16) -> Option<Op> = decode_compressed;
+    /// `alu`, which the original inlines. Not here, as a C function is not.
     #[inline(never)]
     pub fn computed(kind: AluKind, lhs: u64, rhs: u64) -> u64 {
         alu(kind, lhs, rhs)
     }
-);
+}
 
 /// Stand-in.
 pub mod csr {
