@@ -13,11 +13,11 @@ mod stream;
 mod work;
 
 use std::process::{Command, ExitCode};
-use std::time::{Duration, Instant};
+use std::time::Instant;
 use work::{Side, Work};
 
-const ROUNDS: usize = 25;
-const ROUND: Duration = Duration::from_millis(20);
+/// Many short rounds: a pass takes a millisecond or two, so that on a loaded machine some of them run undisturbed.
+const ROUNDS: usize = 300;
 
 #[derive(Default)]
 struct Plan {
@@ -88,20 +88,12 @@ fn bench_measured(work: &Work, side: Side) -> u64 {
 
 /// Nanoseconds for one pass on each side, in the best round.
 fn timed(work: &Work) -> [f64; 2] {
-    let passes = Side::BOTH.map(|side| {
-        let start = Instant::now();
-        bench_measured(work, side);
-        (ROUND.as_nanos() / start.elapsed().as_nanos().max(1)).max(1) as u32
-    });
     let mut best = [f64::INFINITY; 2];
     for _ in 0..ROUNDS {
         for (side, best) in Side::BOTH.into_iter().zip(&mut best) {
-            let passes = passes[side as usize];
             let start = Instant::now();
-            for _ in 0..passes {
-                bench_measured(work, side);
-            }
-            *best = best.min(start.elapsed().as_nanos() as f64 / f64::from(passes));
+            bench_measured(work, side);
+            *best = best.min(start.elapsed().as_nanos() as f64);
         }
     }
     best
