@@ -1,8 +1,6 @@
--- `decode::answer` meets its contract. Both refusals return before the lent bytes are touched.
+-- `decode::answer` meets its contract. The refusal returns before the lent bytes are touched.
 -- Assumes nothing.
 use mathlib.Core.Path.{sym, _∙_}
-use lib.ListN.{length}
-use borrow.Author.Tests.{eq-eqb, ne-eqb}
 use Rattle.bits.proofs.Bytes.{patch-whole}
 use Rattle.op.specs.Record.{opRecord}
 use Rattle.op.proofs.Record.{length-record}
@@ -14,14 +12,12 @@ pub answer-spec : {M : Type 1} → statement M
 answer-spec =
     tie.close
     (tie.spec
-    (λ c. rw (ne-eqb (length (c .before .before .args .lent .now)) 16 (c .if1 .taken)))
     (λ c. search needs) (λ c. search needs)
-    (λ c. rw (eq-eqb (length (c .before .before .before .before .args .lent .now)) 16 (c .before .before .if1 .left), c .enum-told .given .1))
+    (λ c. rw (c .enum-told .given .1))
     (λ c κs. search needs) (λ c. search needs)
     (λ c.
     let known = c .before .before .before .before .before in
-    let start = known .before .before .before .before in
+    let start = known .before .before .before in
     let op = known .decoded .given .0 .0 in
-    let long = known .before .before .if1 .left in
-    let whole = patch-whole (start .args .lent .now) (opRecord op (start .args .ilen) 0) (long ∙ sym (length-record op (start .args .ilen) 0)) in
-    rw (eq-eqb (length (start .args .lent .now)) 16 long, known .decoded .given .1, c .before .before .write-op .ensures ∙ whole)))
+    let whole = patch-whole (start .args .lent .now) (opRecord op (start .args .ilen) 0) (start .pre ∙ sym (length-record op (start .args .ilen) 0)) in
+    rw (known .decoded .given .1, c .before .before .write-op .ensures ∙ whole)))

@@ -1,0 +1,46 @@
+use std::fmt;
+
+/// How many answers were compared, and how many were not the same.
+#[derive(Default)]
+pub struct Tally {
+    pub same: u64,
+    pub differ: u64,
+}
+
+impl Tally {
+    const SHOWN: u64 = 10;
+
+    /// Counts one answer; the first few that differ are shown.
+    #[inline(always)]
+    pub fn expect(&mut self, same: bool, show: impl FnOnce() -> String) {
+        if same {
+            self.same += 1;
+        } else {
+            self.differs(show);
+        }
+    }
+
+    #[cold]
+    fn differs(&mut self, show: impl FnOnce() -> String) {
+        self.differ += 1;
+        if self.differ <= Self::SHOWN {
+            println!("DIFFERENT {}", show());
+        }
+    }
+
+    pub fn add(&mut self, other: &Self) {
+        self.same += other.same;
+        self.differ += other.differ;
+    }
+}
+
+impl fmt::Display for Tally {
+    fn fmt(&self, f: &mut fmt::Formatter<'_>) -> fmt::Result {
+        write!(
+            f,
+            "{} compared, {} different",
+            self.same + self.differ,
+            self.differ
+        )
+    }
+}

@@ -1,0 +1,64 @@
+//! RISC-V words and halfwords to ops, and the ALU kinds without multiply and divide, by functions that are proved: on all inputs, equal to
+//! those of capsulerun/vpod that they replace. The names are the original's, so that its call sites change by an import.
+//!
+//! ```
+//! use unvriscol::{AluKind, Error, Op, alu, decode_halfword, decode_word};
+//!
+//! // addi a0, zero, 1
+//! let decoded = decode_word(0x0010_0513)?;
+//! assert_eq!(decoded.op, Op::AluImm { kind: AluKind::Add, rd: 10, rs1: 0, imm: 1 });
+//! assert_eq!((decoded.pc_off, decoded.ilen), (0, 4));
+//!
+//! // The same as document 01's record of sixteen bytes.
+//! assert_eq!(decoded.to_record(), [2, 0, 10, 0, 0, 4, 0, 0, 1, 0, 0, 0, 0, 0, 0, 0]);
+//!
+//! // c.ebreak has no op, and multiply is not taken.
+//! assert_eq!(decode_halfword(0x9002), Err(Error::NothingThere));
+//! assert_eq!(alu(AluKind::Mul, 6, 7), Err(Error::NoKind));
+//!
+//! assert_eq!(alu(AluKind::Sra, 1 << 63, 1)?, 0xC000_0000_0000_0000);
+//! # Ok::<(), Error>(())
+//! ```
+//!
+//! The promises stand in docs/PROMISES.md; what this crate adds to them, the way from a record to an enum and back, is tested and not proved.
+
+pub mod door;
+mod error;
+mod op;
+
+pub use error::Error;
+pub use op::{AluKind, BranchKind, DecodedInsn, LoadKind, Op, StoreKind};
+
+/// Decodes a word: its op at offset 0, four bytes long. [`Error::NothingThere`] where the word has no op.
+pub fn decode_word(raw: u32) -> Result<DecodedInsn, Error> {
+    let mut record = [0; DecodedInsn::LEN];
+    decode_word_into(raw, &mut record)?;
+    Ok(DecodedInsn::proved(&record))
+}
+
+/// Decodes a halfword: its op at offset 0, two bytes long. [`Error::NothingThere`] where the halfword has no op.
+pub fn decode_halfword(raw: u16) -> Result<DecodedInsn, Error> {
+    let mut record = [0; DecodedInsn::LEN];
+    decode_halfword_into(raw, &mut record)?;
+    Ok(DecodedInsn::proved(&record))
+}
+
+/// Decodes a word into the caller's record of sixteen bytes, which an error leaves as it was.
+#[inline]
+pub fn decode_word_into(raw: u32, record: &mut [u8]) -> Result<(), Error> {
+    // SAFETY: the pointer and the length are those of one slice, which is lent for the call.
+    Error::check(unsafe { door::uv_decode_word(raw, record.as_mut_ptr(), record.len()) })
+}
+
+/// Decodes a halfword into the caller's record of sixteen bytes, which an error leaves as it was.
+#[inline]
+pub fn decode_halfword_into(raw: u16, record: &mut [u8]) -> Result<(), Error> {
+    // SAFETY: the pointer and the length are those of one slice, which is lent for the call.
+    Error::check(unsafe { door::uv_decode_halfword(raw, record.as_mut_ptr(), record.len()) })
+}
+
+/// What a kind makes of two operands. [`Error::NoKind`] for multiply and divide, which stay with the host.
+#[inline]
+pub fn alu(kind: AluKind, lhs: u64, rhs: u64) -> Result<u64, Error> {
+    door::uv_alu(kind as u64, lhs, rhs).checked()
+}
