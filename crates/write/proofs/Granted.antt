@@ -1,0 +1,68 @@
+-- What the checks of an accepted write have shown, and how large a notice's report is.
+-- Assumes nothing.
+use mathlib.Core.Path.{_≡_, refl, sym, ap, subst, _∙_}
+use mathlib.Core.Bool.{Bool, true, false, cond}
+use mathlib.Core.List.{List}
+use Prim.Native.Nat.{ℕ, _+_, _*_, _^_, _≤_}
+use native.Mathlib.Omega.{arith}
+use lib.Dec.{eqb, leb}
+use borrow.Author.Tests.{eqb-true, leb-true, ne-eqb}
+use Rattle.bits.proofs.Every.{decide}
+use Rattle.bits.proofs.Tests.{and-both, true-false}
+use Rattle.store.specs.Layout.{opened, Bounded}
+use Rattle.store.specs.declared.Geometry.{Geometry}
+use Rattle.store.specs.declared.Opened.{Opened}
+use Rattle.store.specs.declared.Opened.the-variants.{Sound, NotAStore}
+use Rattle.store.proofs.Known.{slots-le}
+use Rattle.cache.specs.Calls.{watched, evicted, noticedIn}
+use Rattle.cache.specs.declared.Refusal.the-variants.{BadGeometry, OutsideMemory, WrongWriteSize}
+use Rattle.cache.specs.declared.Judged.{Judged}
+use Rattle.cache.specs.declared.Judged.the-variants.{Accepted, Rejected}
+use Rattle.cache.specs.declared.Report.{Report}
+use Rattle.write.specs.Write.{goodSize, inside, writeJudged}
+
+pub size-small : (n : ℕ) → goodSize n ≡ true → (1 ≤ n) × (n ≤ 8)
+size-small n h =
+    decide n 1 (λ e. omega arith)
+    (λ a. decide n 2 (λ e. omega arith)
+    (λ b. decide n 4 (λ e. omega arith)
+    (λ c. decide n 8 (λ e. omega arith)
+    (λ d. absurd (true-false h (rw (ne-eqb n 1 a, ne-eqb n 2 b, ne-eqb n 4 c, ne-eqb n 8 d)))))))
+
+pub record Granted (s : List ℕ) (size a n : ℕ) (g : Geometry) : Type 0 where
+  pub sound : opened s ≡ Sound g
+  pub whole : size ≡ 4096 * g .pages
+  pub some : 1 ≤ n
+  pub few : n ≤ 8
+  pub low : g .base ≤ a
+  pub high : a + n ≤ g .base + 4096 * g .pages
+
+module _ (s : List ℕ) (size a n : ℕ) (g : Geometry) where
+  pub write-granted : writeJudged (opened s) size a n ≡ Accepted g → Granted s size a n g
+  write-granted h = go (opened s) refl h
+    where
+      facts : opened s ≡ Sound g → size ≡ 4096 * g .pages → goodSize n ≡ true → inside g a n ≡ true → Granted s size a n g
+      facts e w t i =
+          let b = and-both (leb (g .base) a) _ i in
+          let r = size-small n t in
+          record { sound = e; whole = w; some = r .0; few = r .1; low = leb-true _ _ (b .0); high = leb-true _ _ (b .1) }
+
+      tests : (k : Geometry) → opened s ≡ Sound k → (x y z : Bool) → eqb size (4096 * k .pages) ≡ x → goodSize n ≡ y → inside k a n ≡ z → cond x (cond y (cond z (Accepted k) (Rejected OutsideMemory)) (Rejected WrongWriteSize)) (Rejected BadGeometry) ≡ Accepted g → Granted s size a n g
+      tests k e true true true ex ey ez q =
+          let w : k ≡ g = cc in
+          subst (λ (z : Geometry). opened s ≡ Sound z → size ≡ 4096 * z .pages → inside z a n ≡ true → Granted s size a n g) (sym w)
+          (λ p r i. facts p r ey i) e (eqb-true _ _ ex) ez
+      tests k e true true false ex ey ez q = absurd (let z : _≡_ {A = ℕ} 0 1 = cc in omega arith)
+      tests k e true false z ex ey ez q = absurd (let z : _≡_ {A = ℕ} 0 1 = cc in omega arith)
+      tests k e false y z ex ey ez q = absurd (let z : _≡_ {A = ℕ} 0 1 = cc in omega arith)
+
+      go : (o : Opened) → opened s ≡ o → writeJudged o size a n ≡ Accepted g → Granted s size a n g
+      go (Sound k) e q = tests k e (eqb size (4096 * k .pages)) (goodSize n) (inside k a n) refl refl refl q
+      go NotAStore e q = absurd (let z : _≡_ {A = ℕ} 0 1 = cc in omega arith)
+
+pub report-small : (g : Geometry) (s : List ℕ) (a : ℕ) (r : Report) (t : List ℕ) → Bounded g → (r, t) ≡ noticedIn g s a → r .examined ≤ 16384
+report-small g s a r t b e = rw (ap (λ (p : Report × List ℕ). p .0 .examined) e) (go (watched g s a))
+  where
+    go : (x : Bool) → cond {A = Report × List ℕ} x (record { examined = 2 ^ g .e }, evicted g s a) (record { examined = 0 }, s) .0 .examined ≤ 16384
+    go true = slots-le g b
+    go false = omega arith

@@ -1,0 +1,2 @@
+-- What a guest write answers and leaves behind.
+pub mod Write
