@@ -38,45 +38,16 @@ fn ends_block(op: Op) -> bool
     ensures { λ r. ⌜ r ≡ endsBlock op ⌝ }
 {
     match op {
-        Op::Lui { rd: _, imm: _ } => false,
-        Op::Auipc { rd: _, imm: _ } => false,
-        Op::AluImm {
-            kind: _,
-            rd: _,
-            rs1: _,
-            imm: _,
-        } => false,
-        Op::AluReg {
-            kind: _,
-            rd: _,
-            rs1: _,
-            rs2: _,
-        } => false,
-        Op::Load {
-            kind: _,
-            rd: _,
-            rs1: _,
-            imm: _,
-        } => false,
-        Op::Store {
-            kind: _,
-            rs1: _,
-            rs2: _,
-            imm: _,
-        } => false,
-        Op::Branch {
-            kind: _,
-            rs1: _,
-            rs2: _,
-            offset: _,
-        } => false,
-        Op::Jal { rd: _, offset: _ } => true,
-        Op::Jalr {
-            rd: _,
-            rs1: _,
-            imm: _,
-        } => true,
-        Op::Fallback { raw: _ } => false,
+        Op::Lui { .. } => false,
+        Op::Auipc { .. } => false,
+        Op::AluImm { .. } => false,
+        Op::AluReg { .. } => false,
+        Op::Load { .. } => false,
+        Op::Store { .. } => false,
+        Op::Branch { .. } => false,
+        Op::Jal { .. } => true,
+        Op::Jalr { .. } => true,
+        Op::Fallback { .. } => false,
     }
 }
 
@@ -85,7 +56,7 @@ fn fetch_halfword(raw: u16) -> Fetched
 {
     let decoded = halfword::decode_compressed(raw);
     let Decoded::Some(op) = decoded else {
-        return Fetched::Stop;
+        return Fetched::Stop; // no Fallback of two bytes
     };
     Fetched::Kept(op, 2)
 }
