@@ -1,0 +1,96 @@
+-- What an accepted insertion and an eviction leave of a store's geometry, generation, page bits and places.
+-- Assumes nothing.
+use mathlib.Core.Path.{_≡_, ap, _∙_}
+use mathlib.Core.Bool.{Bool, true, false, cond}
+use mathlib.Core.List.{List}
+use Prim.Native.Nat.{ℕ, _+_, _/_, _%_, _^_, _<_}
+use native.Mathlib.Omega.{arith}
+use lib.Dec.{eqb}
+use lib.ListN.{length}
+use Rattle.bits.specs.Bytes.{patch}
+use Rattle.store.specs.Layout.{opened, Fitting, holds, pageOf, slotOf, generationOf, bumped}
+use Rattle.store.specs.Places.{pageBit, withBit, emptied}
+use Rattle.store.specs.declared.Geometry.{Geometry}
+use Rattle.store.specs.declared.Which.{Which}
+use Rattle.store.specs.declared.Which.the-variants.{OnPage}
+use Rattle.store.proofs.Known.{page-lt, slot-lt}
+use Rattle.store.proofs.Places.{length-emptied}
+use Rattle.store.proofs.View.{placeIn, length-with, opened-with, generation-with, bits-with, place-with, length-bumped, opened-bumped, generation-bumped, bits-bumped, place-bumped, length-put, opened-put, generation-put, bits-put, place-put, fitting-each, opened-each, generation-each, bits-each, place-each}
+use Rattle.cache.specs.Calls.{placeOf, insertedIn, evicted}
+
+-- emptying keeps a place's length
+keeps : (g : Geometry) (s : List ℕ) → Fitting g s → (w : Which) (p : List ℕ) → length p ≡ g .size → length (emptied w p) ≡ g .size
+keeps g s f w p l = length-emptied w p (omega (arith, f .bounds .room)) ∙ l
+
+module _ (g : Geometry) (s : List ℕ) (f : Fitting g s) (a : ℕ) (h : holds g a ≡ true) where
+  in-memory : pageOf g a < g .pages
+  in-memory = page-lt g a h
+
+  -- the page's bit is off, and the places on the page are empty
+  cleared : List ℕ
+  cleared = withBit s (pageOf g a) false
+
+  cleared-fits : Fitting g cleared
+  unfolding cleared
+  cleared-fits = record { bounds = f .bounds; size = length-with g s f (pageOf g a) false in-memory ∙ f .size }
+
+  here : Which
+  here = OnPage (a / 4096)
+
+  pub fitting-evicted : Fitting g (evicted g s a)
+  unfolding evicted cleared here
+  fitting-evicted = fitting-each g cleared cleared-fits (emptied here) (keeps g s f here)
+
+  pub opened-evicted : opened (evicted g s a) ≡ opened s
+  unfolding evicted cleared here
+  opened-evicted = opened-each g cleared cleared-fits (emptied here) (keeps g s f here) ∙ opened-with g s f (pageOf g a) false in-memory
+
+  pub generation-evicted : generationOf (evicted g s a) ≡ generationOf s
+  unfolding evicted cleared here
+  generation-evicted = generation-each g cleared cleared-fits (emptied here) (keeps g s f here) ∙ generation-with g s f (pageOf g a) false in-memory
+
+  pub bits-evicted : (q : ℕ) → q < g .pages → pageBit (evicted g s a) q ≡ cond (eqb (pageOf g a) q) false (pageBit s q)
+  unfolding evicted cleared here
+  bits-evicted q b = bits-each g cleared cleared-fits (emptied here) (keeps g s f here) q b ∙ bits-with g s f (pageOf g a) false in-memory q
+
+  pub place-evicted : (i : ℕ) → i < 2 ^ g .e → placeIn g (evicted g s a) i ≡ emptied (OnPage (a / 4096)) (placeIn g s i)
+  unfolding evicted cleared here
+  place-evicted i b = place-each g cleared cleared-fits (emptied here) (keeps g s f here) i b ∙ ap (emptied here) (place-with g s f (pageOf g a) false in-memory i)
+
+  -- the page's bit is on, the generation one up, and the slot's place is the record
+  module _ (rec : List ℕ) (l : length rec ≡ g .size) where
+    marked : List ℕ
+    marked = withBit s (pageOf g a) true
+
+    marked-fits : Fitting g marked
+    unfolding marked
+    marked-fits = record { bounds = f .bounds; size = length-with g s f (pageOf g a) true in-memory ∙ f .size }
+
+    moved-fits : Fitting g (bumped marked)
+    moved-fits = record { bounds = f .bounds; size = length-bumped g marked marked-fits ∙ marked-fits .size }
+
+    pub fitting-inserted : Fitting g (insertedIn g s a rec)
+    unfolding insertedIn marked
+    fitting-inserted = record { bounds = f .bounds; size = length-put g (bumped marked) moved-fits (slotOf g a) rec (slot-lt g a) l ∙ moved-fits .size }
+
+    pub opened-inserted : opened (insertedIn g s a rec) ≡ opened s
+    unfolding insertedIn marked
+    opened-inserted = opened-put g (bumped marked) moved-fits (slotOf g a) rec (slot-lt g a) l ∙ opened-bumped g marked marked-fits ∙ opened-with g s f (pageOf g a) true in-memory
+
+    pub generation-inserted : generationOf (insertedIn g s a rec) ≡ (generationOf s + 1) % 2 ^ 64
+    unfolding insertedIn marked
+    generation-inserted =
+        generation-put g (bumped marked) moved-fits (slotOf g a) rec (slot-lt g a) l
+        ∙ generation-bumped g marked marked-fits
+        ∙ ap (λ (n : ℕ). (n + 1) % 2 ^ 64) (generation-with g s f (pageOf g a) true in-memory)
+
+    pub bits-inserted : (q : ℕ) → q < g .pages → pageBit (insertedIn g s a rec) q ≡ cond (eqb (pageOf g a) q) true (pageBit s q)
+    unfolding insertedIn marked
+    bits-inserted q b =
+        bits-put g (bumped marked) moved-fits (slotOf g a) rec (slot-lt g a) l q b ∙ bits-bumped g marked marked-fits q ∙ bits-with g s f (pageOf g a) true in-memory q
+
+    pub place-inserted : (i : ℕ) → placeIn g (insertedIn g s a rec) i ≡ cond (eqb (slotOf g a) i) rec (placeIn g s i)
+    unfolding insertedIn marked
+    place-inserted i =
+        place-put g (bumped marked) moved-fits (slotOf g a) rec (slot-lt g a) l i
+        ∙ ap (cond (eqb (slotOf g a) i) rec) (place-bumped g marked marked-fits i ∙ place-with g s f (pageOf g a) true in-memory i)
