@@ -1,0 +1,2 @@
+-- What reading a halfword of guest memory answers.
+pub mod View
