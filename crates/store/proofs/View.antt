@@ -202,7 +202,7 @@ module _ (g : Geometry) (s : List ℕ) (f : Fitting g s) (make : List ℕ → Li
     sound = opened-put g z fz n p h l ∙ w .sound;
     age = generation-put g z fz n p h l ∙ w .age;
     bits = λ q b. bits-put g z fz n p h l q b ∙ w .bits q b;
-    places = λ i. place-put g z fz n p h l i ∙ one i (eqb n i) refl
+    places = λ i. place-put g z fz n p h l i ∙ one i (eqb n i) refl;
   }
     where
       fz : Fitting g z
@@ -354,7 +354,7 @@ module _ (e base pages : ℕ) (w : inBounds e base pages ≡ true) where
         long = let z = front-fits g made fits in omega arith;
         signed = refl;
         bounded = ap (λ (k : Geometry). inBounds (k .e) (k .base) (k .pages)) is ∙ w;
-        size = fits .size ∙ ap storeSize (sym is)
+        size = fits .size ∙ ap storeSize (sym is);
       }
 
   pub generation-made : generationOf (header (geometry e base pages) 1 ++ blank (geometry e base pages)) ≡ 1
