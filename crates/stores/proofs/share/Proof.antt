@@ -1,0 +1,20 @@
+-- `stores::share` calls within the bounds that it tested.
+-- Assumes nothing.
+use mathlib.Core.Path.{sym, _∙_}
+use Rattle.store.specs.Layout.{Bounded}
+use Rattle.store.proofs.Known.{bounds-are}
+use borrow.Author.Needs.{needs}
+use Rattle.stores.proofs.share.Statement.{statement}
+use Rattle.stores.proofs.share.Tie as tie
+
+bounds : (c : tie.After-new) → Bounded (c .new .result)
+bounds c = rw (c .new .ensures) (bounds-are _ _ _ (sym (c .before .before .in-bounds .ensures) ∙ c .before .if1 .taken))
+
+pub share-spec : {M : Type 1} → statement M
+share-spec =
+    tie.close
+    (tie.spec
+    (λ c κs. search needs) (λ c κs. search needs)
+    (λ c κs. bounds c)
+    (λ c κs. bounds (c .before))
+    (λ c κs. search needs) (λ c. search needs) (λ c. search needs))

@@ -1,0 +1,136 @@
+// Document 01's sizes and values of the store, run through the calls. Each line shows a call's number and value.
+use libc::STDOUT_FILENO;
+use store::Geometry;
+
+fn line(number: u64, value: u64) {
+    io::print_decimal(STDOUT_FILENO, number);
+    io::write_all(STDOUT_FILENO, b" ");
+    io::print_decimal(STDOUT_FILENO, value);
+    io::write_all(STDOUT_FILENO, b"\n");
+}
+
+// The length that Make asks for, and whether two addresses share a slot.
+fn size(e: u64, pages: u64) {
+    if store::in_bounds(e, 0, pages) {
+        line(0, Geometry::new(e, 0, pages).store_size() as u64);
+    } else {
+        line(2, 0);
+    }
+}
+
+fn share(e: u64, a: u64, b: u64) {
+    if store::in_bounds(e, 0, 65536) {
+        let g = Geometry::new(e, 0, 65536);
+        let first = g.place(a);
+        let second = g.place(b);
+        line(first as u64, second as u64);
+    }
+}
+
+// A block of one op, AluImm Add of four bytes.
+fn record(address: u64) -> [u8; 1040] {
+    let mut r = [0u8; 1040];
+    bits::put_doubleword(&mut r, 0, address);
+    r[8] = 1;
+    r[10] = 4;
+    r[16] = 2;
+    r[18] = 10;
+    r[21] = 4;
+    r[24] = 1;
+    r
+}
+
+fn insert(store: &mut [u8], address: u64) {
+    let r = record(address);
+    line(cache::insert(store, address, &r).number(), 0);
+}
+
+// The number, and the length of the part that comes back.
+fn lookup(store: &[u8], address: u64) {
+    line(
+        cache::find(store, address).number(),
+        cache::lookup(store, address).len() as u64,
+    );
+}
+
+fn notice(store: &mut [u8], address: u64) {
+    let answer = cache::notice(store, address);
+    line(answer.number(), answer.value());
+}
+
+fn write(store: &mut [u8], memory: &mut [u8], address: u64, n: u64) {
+    let answer = write::guest_write(store, memory, address, n, 0x1122_3344_5566_7788);
+    line(answer.number(), answer.value());
+}
+
+fn generation(store: &[u8]) {
+    let answer = cache::generation(store);
+    line(answer.number(), answer.value());
+}
+
+// Four slots over two pages: blocks on both; a store at 0xFF8 touches one page, at 0xFF9 both.
+fn pages() {
+    let mut store = [0u8; 4200];
+    let mut memory = [0u8; 8192];
+    line(cache::make(&mut store, 2, 0, 2).number(), 0);
+    insert(&mut store, 0);
+    insert(&mut store, 0x1002);
+    write(&mut store, &mut memory, 0xff8, 8);
+    lookup(&store, 0);
+    lookup(&store, 0x1002);
+    insert(&mut store, 0);
+    write(&mut store, &mut memory, 0xff9, 8);
+    lookup(&store, 0);
+    lookup(&store, 0x1002);
+}
+
+// An even address and the next share a slot. The bit stays when a block is displaced, and goes with a notice.
+fn displaced() {
+    let mut store = [0u8; 4200];
+    line(cache::make(&mut store, 2, 0, 2).number(), 0);
+    insert(&mut store, 0x10);
+    insert(&mut store, 0x11);
+    lookup(&store, 0x10);
+    lookup(&store, 0x11);
+    notice(&mut store, 0xfff);
+    notice(&mut store, 0xfff);
+    lookup(&store, 0x11);
+    generation(&store);
+    line(cache::flush(&mut store).number(), 0);
+    generation(&store);
+}
+
+// Outside memory, a wrong size, a write past the end and one at the top of all addresses.
+fn refused() {
+    let mut store = [0u8; 4200];
+    let mut memory = [0u8; 8192];
+    line(cache::make(&mut store, 2, 0, 2).number(), 0);
+    lookup(&store, 0x2000);
+    notice(&mut store, 0x2000);
+    insert(&mut store, 0x2000);
+    write(&mut store, &mut memory, 0, 3);
+    write(&mut store, &mut memory, 0x1ff9, 8);
+    write(&mut store, &mut memory, 0xffff_ffff_ffff_ffff, 8);
+}
+
+// Bytes that were never made a store, and one byte too few to make one.
+fn no_store() {
+    let mut store = [0u8; 4200];
+    generation(&store);
+    lookup(&store, 0);
+    line(cache::make(&mut store[..4199], 2, 0, 2).number(), 0);
+}
+
+fn main() {
+    size(2, 1);
+    size(14, 65536);
+    size(15, 1);
+    size(2, 0);
+    share(14, 0x100, 0x100 + 32768);
+    share(14, 0x100, 0x101);
+    share(14, 0x100, 0x102);
+    pages();
+    displaced();
+    refused();
+    no_store();
+}
