@@ -3,7 +3,7 @@
 pub mod instruction;
 
 ghost use mathlib.Core.Path.{_≡_};
-ghost use Prim.Native.Nat.{_+_, _*_, _<_};
+ghost use Prim.Native.Nat.{ℕ, _+_, _*_, _%_, _<_};
 ghost use Rattle.bits.specs.Match.{case};
 ghost use Rattle.word.specs.Word.{branchRows, loadRows, storeRows, leftRows, rightRows, immRows, left32Rows, right32Rows, imm32Rows, regRows, reg32Rows, formBy, opOf, rustWord};
 ghost use Rattle.word.specs.declared.Form.the-variants.{NoForm, Imm, Shift6, Unary};
@@ -368,21 +368,40 @@ fn right_op(inst: Instruction, funct6: u32, shamt: u32) -> Decoded
     }
 }
 
-// OP_IMM, the commonest opcode, in one step: its form would cost a jump of its own.
-fn imm_op(inst: Instruction, funct3: u32, funct6: u32, shamt: u32) -> Decoded
+// OP_IMM, but the shifts
+fn imm_kind(funct3: u32) -> AluKind
+    requires { ⌜ (funct3 < 8) × (funct3 % 4 ≡ 1 → ⊥) ⌝ }
+    ensures { λ r. ⌜ ((funct6 shamt : ℕ) → Imm r ≡ case funct3 (immRows funct6 shamt) NoForm) ⌝ }
+{
+    match funct3 {
+        0x0 => AluKind::Add,
+        0x2 => AluKind::Slt,
+        0x3 => AluKind::Sltu,
+        0x4 => AluKind::Xor,
+        0x6 => AluKind::Or,
+        _ => AluKind::And,
+    }
+}
+
+fn shift_op(inst: Instruction, funct3: u32, funct6: u32, shamt: u32) -> Decoded
+    requires { ⌜ (funct3 < 8) × (funct3 % 4 ≡ 1) ⌝ }
     ensures { λ r. ⌜ r ≡ opOf (inst .0) (case funct3 (immRows funct6 shamt) NoForm) ⌝ }
 {
     match funct3 {
-        0x0 => imm(inst, AluKind::Add),
         0x1 => left_op(inst, funct6, shamt),
-        0x2 => imm(inst, AluKind::Slt),
-        0x3 => imm(inst, AluKind::Sltu),
-        0x4 => imm(inst, AluKind::Xor),
-        0x5 => right_op(inst, funct6, shamt),
-        0x6 => imm(inst, AluKind::Or),
-        0x7 => imm(inst, AluKind::And),
-        _ => Decoded::None,
+        _ => right_op(inst, funct6, shamt),
     }
+}
+
+// OP_IMM, the commonest opcode, in one step, and the shifts apart: then the kind is looked up, where it would cost a jump, and so would the form.
+fn imm_op(inst: Instruction, funct3: u32, funct6: u32, shamt: u32) -> Decoded
+    requires { ⌜ funct3 < 8 ⌝ }
+    ensures { λ r. ⌜ r ≡ opOf (inst .0) (case funct3 (immRows funct6 shamt) NoForm) ⌝ }
+{
+    if funct3 % 4 == 1 {
+        return shift_op(inst, funct3, funct6, shamt);
+    }
+    imm(inst, imm_kind(funct3))
 }
 
 fn op_at(inst: Instruction, op: u32, funct3: u32, funct7: u32, rs2: u32) -> Decoded
