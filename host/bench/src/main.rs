@@ -52,7 +52,7 @@ fn main() -> ExitCode {
         "ns"
     };
     println!(
-        "| {unit} per call | calls | Rust | ours | ours over Rust | target |\n|---|---|---|---|---|---|"
+        "| {unit} per call | Rust | ours | ours over Rust | target (time) |\n|---|---|---|---|---|"
     );
     for (at, work) in rows.iter().enumerate() {
         let [rust, ours] = if plan.instructions {
@@ -68,7 +68,7 @@ fn main() -> ExitCode {
         };
         let calls = work.len() as f64;
         println!(
-            "| {} | {calls} | {:.2} | {:.2} | {:.2} | {:.2} |",
+            "| {} | {:.1} | {:.1} | {:.2} | {:.2} |",
             work.name,
             rust / calls,
             ours / calls,

@@ -1,4 +1,4 @@
--- `word::decode_full` meets its contract: the two steps are those of the definition.
+-- `word::decode_full` meets its contract: the fields are those of the definition.
 -- Assumes nothing.
 use borrow.Author.Needs.{needs}
 use Rattle.word.proofs.decode_full.Statement.{statement}
@@ -9,5 +9,4 @@ decode-full-spec =
     tie.close
     (tie.spec
     (λ c κs. search needs) (λ c κs. search needs) (λ c κs. search needs) (λ c κs. search needs) (λ c. search needs) (λ c κs. search needs)
-    (λ c κs. search needs)
     (λ c. cc))
