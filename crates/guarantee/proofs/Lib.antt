@@ -5,3 +5,5 @@ pub mod Run
 pub mod Guarantee
 pub mod Spent
 pub mod Fresh
+pub mod Reading
+pub mod Worthless

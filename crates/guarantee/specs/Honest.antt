@@ -5,6 +5,8 @@ use mathlib.Core.Path.{_≡_}
 use mathlib.Core.List.{List, [], _∷_}
 use lib.ListN.{length}
 use Rattle.block.specs.Memory.{page}
+use Rattle.form.specs.Forming.{Reading}
+use Rattle.form.specs.Call.{formCall}
 use Rattle.store.specs.declared.Geometry.{Geometry}
 use Rattle.store.specs.declared.Opened.the-variants.{Sound}
 use Rattle.cache.specs.Calls.{insertJudged}
@@ -19,6 +21,10 @@ Former = Geometry → List ℕ → ℕ → ℕ × List ℕ
 -- it reads only the page of the address
 abbrev pub Local : Former → Type 0
 Local form = (g : Geometry) (m other : List ℕ) (a : ℕ) → length m ≡ length other → page m (g .base) a ≡ page other (g .base) a → form g m a ≡ form g other a
+
+-- the Form call in any reading, into any lent record
+abbrev pub forming : Reading → List ℕ → Former
+forming reading lent g m a = formCall reading m (g .base) a lent
 
 module _ (form : Former) where
   abbrev pub Held : Past → ℕ → List ℕ → List ℕ → Type 0

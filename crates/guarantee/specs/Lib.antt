@@ -3,3 +3,4 @@ pub mod Calls
 pub mod Past
 pub mod Answers
 pub mod Honest
+pub mod Worthless
