@@ -3,14 +3,14 @@
 use mathlib.Core.Path.{_≡_, refl, sym, ap, _∙_}
 use mathlib.Core.Bool.{Bool, true, false, cond, _&&_}
 use mathlib.Core.List.{List}
-use mathlib.Core.Option.{Option, none, some}
-use Prim.Native.Nat.{ℕ, _+_, _*_, _^_, _≤_, _<_}
+use mathlib.Core.Option.{none, some}
+use Prim.Native.Nat.{ℕ}
 use native.Mathlib.Omega.{arith}
 use lib.Dec.{eqb}
 use borrow.Author.Tests.{eqb-true, ne-eqb}
-use Rattle.bits.specs.Bytes.{part, doublewordAt}
+use Rattle.bits.specs.Bytes.{doublewordAt}
 use Rattle.bits.proofs.Bytes.{doubleword-part}
-use Rattle.store.specs.Layout.{opened, slotOf, Bounded}
+use Rattle.store.specs.Layout.{slotOf, Bounded}
 use Rattle.store.specs.Places.{emptyPlace}
 use Rattle.store.specs.declared.Geometry.{Geometry}
 use Rattle.store.proofs.Known.{holds-are, slot-lt}
@@ -24,7 +24,7 @@ use Rattle.history.specs.History.{Event, shown}
 use Rattle.history.proofs.Places.{Place, empty, full, found, places, Was, was, answers}
 use Rattle.guarantee.specs.Calls.{hit}
 use Rattle.guarantee.specs.Past.{pageOf}
-use Rattle.guarantee.proofs.Simulation.{bytesOf, Fits, Inner, Simulates}
+use Rattle.guarantee.proofs.Simulation.{bytesOf, Inner, Simulates}
 
 empty-address : (z : ℕ) → doublewordAt (emptyPlace z) 0 ≡ 0xFFFF_FFFF_FFFF_FFFF
 unfolding emptyPlace

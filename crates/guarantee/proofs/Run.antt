@@ -2,24 +2,24 @@
 -- Assumes nothing.
 use mathlib.Core.Path.{_≡_, refl, sym, ap, subst, _∙_}
 use mathlib.Core.Bool.{Bool, true, false, cond}
-use mathlib.Core.List.{List, [], _∷_, _++_}
-use Prim.Native.Nat.{ℕ, _+_, _-_, _*_, _^_, _≤_}
+use mathlib.Core.List.{List, [], _∷_}
+use Prim.Native.Nat.{ℕ, _+_, _-_, _^_}
 use native.Mathlib.Omega.{arith}
 use lib.Dec.{eqb}
-use lib.ListN.{length, take}
+use lib.ListN.{length}
 use borrow.Author.Tests.{eqb-true}
-use Rattle.bits.specs.Bytes.{le, patch, doublewordAt}
+use Rattle.bits.specs.Bytes.{le, patch}
 use Rattle.bits.proofs.Bytes.{length-le, length-patch}
 use Rattle.bits.proofs.Tests.{and-both}
 use Rattle.block.proofs.Head.{says}
 use Rattle.store.specs.Layout.{header, inBounds, storeSize, geometry, opened, holds, Fitting}
-use Rattle.store.specs.Places.{blank}
 use Rattle.store.specs.declared.Geometry.{Geometry}
 use Rattle.store.specs.declared.Opened.{Opened}
 use Rattle.store.specs.declared.Opened.the-variants.{Sound, NotAStore}
 use Rattle.store.proofs.Known.{bounds-are}
 use Rattle.store.proofs.View.{fitting-blank, fitting-flushed, header-long}
 use Rattle.cache.specs.Calls.{makeJudged, made, makeCall, mayHold, insertJudged, insertedIn, insertCall, watched, evicted, noticedIn, noticed, noticeCall, flushCall}
+use Rattle.cache.specs.Calls as cache
 use Rattle.cache.specs.declared.Refusal.the-variants.{NoStore, BadGeometry}
 use Rattle.cache.specs.declared.Judged.{Judged}
 use Rattle.cache.specs.declared.Judged.the-variants.{Accepted, Rejected}
@@ -27,6 +27,7 @@ use Rattle.cache.specs.declared.Report.{Report}
 use Rattle.cache.proofs.Checks.{opened-fits, opened-size, may-holds, Taken, insert-taken}
 use Rattle.cache.proofs.View.{fitting-evicted, fitting-inserted}
 use Rattle.write.specs.Write.{writeJudged, andThen, written, writeCall}
+use Rattle.write.specs.Write as writes
 use Rattle.write.proofs.Granted.{Granted, write-granted}
 use Rattle.history.specs.History.{Event, inserted, touched, flushed}
 use Rattle.guarantee.specs.Calls.{Call, make, lookup, insert, notice, flush, generation, write, Lent, done, run}
@@ -51,7 +52,7 @@ length-insert s a rec = go (insertJudged (opened s) a rec) refl
     accepted : (g : Geometry) → Taken s a rec g → length (insertedIn g s a rec) ≡ length s
     accepted g t = let f = opened-fits s g (t .sound) in fitting-inserted g s f a (may-holds g a (t .inner)) rec (t .whole ∙ opened-size s g (t .sound)) .size ∙ sym (f .size)
 
-    go : (j : Judged) → insertJudged (opened s) a rec ≡ j → length (Rattle.cache.specs.Calls.inserted j s a rec .1) ≡ length s
+    go : (j : Judged) → insertJudged (opened s) a rec ≡ j → length (cache.inserted j s a rec .1) ≡ length s
     go (Accepted g) e = accepted g (insert-taken s a rec g e)
     go (Rejected why) e = refl
 
@@ -62,7 +63,7 @@ fitting-noticed g s a f = go (watched g s a) refl
     go true e = fitting-evicted g s f a (and-both (holds g a) _ e .0)
     go false e = f
 
-fitting-touched : (g : Geometry) (s : List ℕ) (a b : ℕ) → Fitting g s → Fitting g (Rattle.write.specs.Write.touched g s a b .1)
+fitting-touched : (g : Geometry) (s : List ℕ) (a b : ℕ) → Fitting g s → Fitting g (writes.touched g s a b .1)
 fitting-touched g s a b f = go (eqb (pageOf a) (pageOf b))
   where
     go : (t : Bool) → Fitting g (cond {A = Report × List ℕ} t (noticedIn g s a) (andThen g (noticedIn g s a) b) .1)
@@ -79,7 +80,7 @@ length-notice s a = go (opened s) refl
 length-flush : (s : List ℕ) → length (flushCall s .1) ≡ length s
 length-flush s = go (opened s) refl
   where
-    go : (o : Opened) → opened s ≡ o → length (Rattle.cache.specs.Calls.flushed o s .1) ≡ length s
+    go : (o : Opened) → opened s ≡ o → length (cache.flushed o s .1) ≡ length s
     go (Sound g) e = let f = opened-fits s g e in fitting-flushed g s f .size ∙ sym (f .size)
     go NotAStore e = refl
 
@@ -114,7 +115,7 @@ module _ (g : Geometry) (h : List Event) (s : List ℕ) (y : Simulates g h s) wh
           let fits : Fits g a rec = record { able = ap (λ (z : Geometry). mayHold z a) (sym e) ∙ t .inner; long = t .whole ∙ opened-size s g (y .sound); named = says (t .formed) .0 .addressed } in
           subst (λ (z : Geometry). Simulates g (inserted a rec ∷ h) (insertedIn z s a rec)) (sym e) (insert-keeps g h s y a rec fits)
 
-      go : (j : Judged) → insertJudged (opened s) a rec ≡ j → Simulates g (entered j a rec h) (Rattle.cache.specs.Calls.inserted j s a rec .1)
+      go : (j : Judged) → insertJudged (opened s) a rec ≡ j → Simulates g (entered j a rec h) (cache.inserted j s a rec .1)
       go (Accepted k) e = let t = insert-taken s a rec k e in accepted k (sound-same k g (sym (t .sound) ∙ y .sound)) t
       go (Rejected why) e = y
 
@@ -127,8 +128,8 @@ module _ (g : Geometry) (h : List Event) (s : List ℕ) (y : Simulates g h s) wh
   write-follows : (m : List ℕ) (a n v : ℕ) → Simulates g (wrote (writeJudged (Sound g) (length m) a n) a n h) (writeCall s m a n v .1)
   write-follows m a n v = subst (λ (o : Opened). Simulates g (wrote (writeJudged o (length m) a n) a n h) (writeCall s m a n v .1)) (y .sound) (go (writeJudged (opened s) (length m) a n) refl)
     where
-      accepted : (k : Geometry) → k ≡ g → Simulates g (crossed a (a + n - 1) h) (Rattle.write.specs.Write.touched k s a (a + n - 1) .1)
-      accepted k e = subst (λ (z : Geometry). Simulates g (crossed a (a + n - 1) h) (Rattle.write.specs.Write.touched z s a (a + n - 1) .1)) (sym e) (write-keeps g h s y a (a + n - 1))
+      accepted : (k : Geometry) → k ≡ g → Simulates g (crossed a (a + n - 1) h) (writes.touched k s a (a + n - 1) .1)
+      accepted k e = subst (λ (z : Geometry). Simulates g (crossed a (a + n - 1) h) (writes.touched z s a (a + n - 1) .1)) (sym e) (write-keeps g h s y a (a + n - 1))
 
       go : (j : Judged) → writeJudged (opened s) (length m) a n ≡ j → Simulates g (wrote j a n h) (written j s m a n v .1)
       go (Accepted k) e = accepted k (sound-same k g (sym (write-granted s (length m) a n k e .sound) ∙ y .sound))

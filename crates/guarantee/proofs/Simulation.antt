@@ -8,7 +8,7 @@ use native.Mathlib.Omega.{arith}
 use native.Mathlib.Nat.{mod-add-mod}
 use lib.Dec.{eqb}
 use lib.ListN.{length, take}
-use borrow.Author.Tests.{eqb-true, eqb-false, eq-eqb, ne-eqb, leb-true, ltb-true, le-leb, lt-ltb}
+use borrow.Author.Tests.{eq-eqb, ne-eqb, le-leb, lt-ltb}
 use Rattle.bits.specs.Bytes.{doublewordAt}
 use Rattle.bits.proofs.Every.{decide}
 use Rattle.bits.proofs.Tests.{and-both, true-false}
@@ -25,6 +25,7 @@ use Rattle.cache.specs.declared.Report.{Report}
 use Rattle.cache.proofs.Checks.{opened-fits, may-holds}
 use Rattle.cache.proofs.View.{opened-evicted, generation-evicted, bits-evicted, place-evicted, opened-inserted, generation-inserted, bits-inserted, place-inserted}
 use Rattle.write.specs.Write.{summed, andThen}
+use Rattle.write.specs.Write as writes
 use Rattle.history.specs.History.{Event, inserted, touched, flushed, Every, none-left, and-then, insertions, marked}
 use Rattle.history.proofs.Places.{Place, empty, full, swept, places, Was, was}
 use Rattle.guarantee.specs.Past.{pageOf, crossed}
@@ -191,7 +192,7 @@ module _ (g : Geometry) (h : List Event) (s : List ℕ) (y : Simulates g h s) wh
 
 -- the notices of a write from a to b
 module _ (g : Geometry) (h : List Event) (s : List ℕ) (y : Simulates g h s) (a b : ℕ) where
-  pub write-reports : Rattle.write.specs.Write.touched g s a b .0 ≡ reports g h a b
+  pub write-reports : writes.touched g s a b .0 ≡ reports g h a b
   write-reports = go (eqb (pageOf a) (pageOf b))
     where
       second : noticedIn g (noticedIn g s a .1) b .0 ≡ report g (touched (pageOf a) ∷ h) (pageOf b)
@@ -201,7 +202,7 @@ module _ (g : Geometry) (h : List Event) (s : List ℕ) (y : Simulates g h s) (a
       go true = notice-reports g h s y a
       go false = ap₂ summed (notice-reports g h s y a) second
 
-  pub write-keeps : Simulates g (crossed a b h) (Rattle.write.specs.Write.touched g s a b .1)
+  pub write-keeps : Simulates g (crossed a b h) (writes.touched g s a b .1)
   write-keeps = go (eqb (pageOf a) (pageOf b))
     where
       go : (t : Bool) → Simulates g (cond t (touched (pageOf a) ∷ h) (touched (pageOf b) ∷ touched (pageOf a) ∷ h)) (cond {A = Report × List ℕ} t (noticedIn g s a) (andThen g (noticedIn g s a) b) .1)

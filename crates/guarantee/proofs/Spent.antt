@@ -14,10 +14,8 @@ use Rattle.cache.specs.Answers.{noticeValue}
 use Rattle.cache.specs.Calls.{makeJudged, insertJudged, noticeCall}
 use Rattle.cache.specs.declared.Judged.{Judged}
 use Rattle.cache.specs.declared.Judged.the-variants.{Accepted, Rejected}
-use Rattle.cache.specs.declared.Report.{Report}
 use Rattle.write.specs.Write.{writeValue, writeJudged, writeCall, summed}
-use Rattle.write.specs.declared.WriteAnswer.{WriteAnswer}
-use Rattle.history.specs.History.{Event, inserted, touched, flushed, insertions, examined, total}
+use Rattle.history.specs.History.{Event, touched, flushed, insertions, examined, total}
 use Rattle.history.proofs.Bound.{bound}
 use Rattle.guarantee.specs.Calls.{Call, make, lookup, insert, notice, flush, generation, write, Lent, run}
 use Rattle.guarantee.specs.Past.{Past, unmade, since, pageOf, begun, entered, crossed, wrote, more, told, past, pastOf}

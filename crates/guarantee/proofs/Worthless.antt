@@ -1,6 +1,6 @@
 -- None of the worthless programs answers as the guarantee has it: for each a short list of accepted calls where it does not.
 -- Assumes nothing.
-use mathlib.Core.Path.{_≡_, refl, sym, ap, _∙_}
+use mathlib.Core.Path.{_≡_, refl, ap}
 use mathlib.Core.List.{List, [], _∷_}
 use mathlib.Core.Option.{Option, none, some}
 use Prim.Native.Nat.{ℕ}
@@ -13,11 +13,11 @@ use Rattle.op.specs.declared.AluKind.the-variants.{Add}
 use Rattle.op.specs.WellFormed.{limits, opWellFormed}
 use Rattle.block.specs.Record.{insn, opRecords, byteLen, blockRecord}
 use Rattle.block.specs.WellFormed.{allZero, placed, opsWellFormed, wellFormed}
-use Rattle.store.specs.Layout.{geometry, slotOf}
-use Rattle.history.specs.History.{Event, inserted, touched, flushed, insertions, shown, marked}
+use Rattle.store.specs.Layout.{geometry}
+use Rattle.history.specs.History.{inserted, touched, insertions, shown, marked}
 use Rattle.history.proofs.Sentences.{no-some}
-use Rattle.guarantee.specs.Calls.{Call, make, insert, notice}
-use Rattle.guarantee.specs.Past.{since, pageOf, told, past}
+use Rattle.guarantee.specs.Calls.{make, insert, notice}
+use Rattle.guarantee.specs.Past.{since, told, past}
 use Rattle.guarantee.specs.Worthless.{ShowsRight, CountsRight, keepsNothing, firstKept, keepsFirst, untouched, emptiesAll, alwaysAll, alwaysNone}
 
 -- a block of one op, ADDI x1, x1, n, at address 0

@@ -1,7 +1,7 @@
 -- What a list of calls tells of a store's past, from the calls alone and the lengths of the two buffers: whether a call is accepted needs no byte of them.
 -- Assumes nothing.
 use Prim.Native.Nat.{ℕ, _+_, _-_, _/_}
-use mathlib.Core.Bool.{Bool, cond}
+use mathlib.Core.Bool.{cond}
 use mathlib.Core.List.{List, [], _∷_}
 use lib.Dec.{eqb}
 use lib.ListN.{length}
