@@ -9,8 +9,7 @@ use lib.Dec.{eqb}
 use lib.ListN.{length, getD, take, drop, replicate, length-take, length-drop}
 use lib.Seq.{getD-drop}
 use borrow.Author.Tests.{eq-eqb}
-use Rattle.bits.specs.Bytes.{wordAt}
-use Rattle.op.specs.Record.{opFields, opRecord}
+use Rattle.op.specs.Record.{opFields}
 use Rattle.op.specs.WellFormed.{ilenKnown}
 use Rattle.op.specs.declared.Op.{Op}
 use Rattle.op.specs.declared.Decoded.the-variants.{Some}

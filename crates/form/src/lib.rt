@@ -1,6 +1,6 @@
 // Forms the block at an address of guest memory into a lent record. (block.rs, decode_block)
 ghost use mathlib.Core.Path.{_≡_};
-ghost use Prim.Native.Nat.{_+_, _≤_};
+ghost use Prim.Native.Nat.{_≤_};
 ghost use lib.ListN.{length};
 ghost use Rattle.word.specs.Word.{rustWord};
 ghost use Rattle.halfword.specs.Halfword.{rustHalf};
