@@ -176,44 +176,71 @@ impl Draw {
         {
             return record_of(&block, address).to_vec();
         }
+        self.made_record(address, false)
+    }
+
+    /// Any ops that fit; or, flawed, with one rule broken at one of them and all others kept.
+    fn made_record(&mut self, address: u64, flawed: bool) -> Vec<u8> {
         let mut record = vec![0; RECORD];
         record[..8].copy_from_slice(&address.to_le_bytes());
         let most = self.one(&[1, 2, 5, 64]);
-        let (mut count, mut offset) = (0u16, 0u16);
+        let flaw_at = if flawed {
+            self.random.below(most.min(4))
+        } else {
+            most
+        };
+        let (mut count, mut offset) = (0, 0u16);
         while count < most {
-            let op = self.random.below(10) as u8;
+            let flaw = (count == flaw_at).then(|| self.random.below(8));
+            let mut op = self.random.below(10) as u8;
             let (kinds, has) = OPS[op as usize];
-            let ilen = if op == 9 { 4 } else { self.one(&[2, 4]) };
-            if address % PAGE + u64::from(offset) + u64::from(ilen) > PAGE {
-                break;
-            }
-            let place = &mut record[16 + OP * count as usize..][..OP];
-            place[0] = op;
-            place[1] = self.random.below(kinds.into()) as u8;
-            for (register, has) in place[2..5].iter_mut().zip(has) {
+            let mut ilen = if op == 9 { 4 } else { self.one(&[2, 4]) };
+            let mut kind = self.random.below(kinds.into()) as u8;
+            let mut registers = [0; 3];
+            for (register, has) in registers.iter_mut().zip(has) {
                 *register = if has { self.random.below(32) as u8 } else { 0 };
             }
-            place[5] = ilen;
-            place[6..8].copy_from_slice(&offset.to_le_bytes());
-            let imm = match (op, has[3]) {
+            let mut imm = match (op, has[3]) {
                 (9, _) => self.random.next() >> 32,
                 (_, true) => self.random.wide(),
                 _ => 0,
             };
+            match flaw {
+                Some(0) => op = self.one(&[10, 11, 64, 255]),
+                Some(1) => kind = self.one(&[kinds, kinds + 1, 255]),
+                Some(2 | 3) => {
+                    registers[self.random.below(3) as usize] = self.one(&[1, 31, 32, 255])
+                }
+                Some(4) => ilen = self.one(&[0, 1, 2, 3, 6, 8]),
+                Some(5) => imm |= 1 << self.random.below(64),
+                _ => {}
+            }
+            let end = address % PAGE + u64::from(offset) + u64::from(ilen);
+            if end > PAGE && flaw != Some(6) {
+                break;
+            }
+            let place = &mut record[16 + OP * count as usize..][..OP];
+            place[..2].copy_from_slice(&[op, kind]);
+            place[2..5].copy_from_slice(&registers);
+            place[5] = ilen;
+            place[6..8].copy_from_slice(&offset.to_le_bytes());
             place[8..].copy_from_slice(&imm.to_le_bytes());
             count += 1;
             offset += u16::from(ilen);
-            if op == 7 || op == 8 {
+            if (op == 7 || op == 8) && flaw != Some(7) {
                 break;
             }
         }
-        record[8..10].copy_from_slice(&count.to_le_bytes());
+        record[8..10].copy_from_slice(&(count as u16).to_le_bytes());
         record[10..12].copy_from_slice(&offset.to_le_bytes());
         record
     }
 
-    /// The same with one thing wrong, or with what only looks so.
+    /// A record with one thing wrong, or with what only looks so.
     fn odd_record(&mut self, address: u64) -> Vec<u8> {
+        if self.random.below(2) == 0 {
+            return self.made_record(address, true);
+        }
         let mut record = self.record(address);
         let used = 16 + OP * usize::from(record[8]);
         let at = match self.random.below(4) {
@@ -238,8 +265,8 @@ impl Draw {
             0..35 => {
                 let address = self.address();
                 let record = match self.random.below(8) {
-                    0 => self.odd_record(address),
-                    1 => {
+                    0 | 1 => self.odd_record(address),
+                    2 => {
                         let other = self.address();
                         self.record(other)
                     }

@@ -7,6 +7,7 @@
 //! cargo run --release -p compare -- --image FILE # forming at every offset of a file's bytes too; may be repeated
 //! cargo run --release -p compare -- cache        # the parts that have the word in their name
 //! ```
+//! cargo run --release -p compare -- --replay ../crates/replay   # no comparison: writes the Rust's answers down for crates/replay
 //!
 //! The exit status is 1 where anything differs.
 mod alu;
@@ -15,6 +16,7 @@ mod decode;
 mod form;
 mod model;
 mod record;
+mod replay;
 mod tally;
 mod typed;
 
@@ -30,6 +32,8 @@ pub struct Plan {
     pub images: Vec<(String, Vec<u8>)>,
     /// The parts to run, by words of their names; all where there is none.
     pub parts: Vec<String>,
+    /// Where to write the replay's files, instead of comparing.
+    pub replay: Option<String>,
 }
 
 type Part = (&'static str, fn(&Plan, &mut Tally));
@@ -50,10 +54,21 @@ fn main() -> ExitCode {
     let plan = match plan() {
         Ok(plan) => plan,
         Err(why) => {
-            eprintln!("{why}\nusage: compare [--all] [--seed N] [--image FILE].. [PART]..");
+            eprintln!(
+                "{why}\nusage: compare [--all] [--seed N] [--image FILE].. [--replay FOLDER] [PART].."
+            );
             return ExitCode::from(2);
         }
     };
+    if let Some(folder) = &plan.replay {
+        return match replay::write(folder.as_ref()) {
+            Ok(()) => ExitCode::SUCCESS,
+            Err(why) => {
+                eprintln!("{folder}: {why}");
+                ExitCode::FAILURE
+            }
+        };
+    }
     println!("seed {}", plan.seed);
     let mut whole = Tally::default();
     let wanted = |name: &str| {
@@ -80,6 +95,7 @@ fn plan() -> Result<Plan, String> {
         seed: 1,
         images: Vec::new(),
         parts: Vec::new(),
+        replay: None,
     };
     let mut words = std::env::args().skip(1);
     while let Some(word) = words.next() {
@@ -89,6 +105,7 @@ fn plan() -> Result<Plan, String> {
                 let number = words.next().ok_or("--seed wants a number")?;
                 plan.seed = number.parse().map_err(|_| format!("{number} is no seed"))?;
             }
+            "--replay" => plan.replay = Some(words.next().ok_or("--replay wants a folder")?),
             "--image" => {
                 let name = words.next().ok_or("--image wants a file")?;
                 let image = std::fs::read(&name).map_err(|why| format!("{name}: {why}"))?;
