@@ -3,6 +3,12 @@
 ghost use mathlib.Core.Path.{_≡_};
 ghost use Rattle.decode.specs.Call.{wordCall, halfCall};
 ghost use Rattle.alu.specs.Call.{aluCall};
+ghost use Rattle.form.specs.Forming.{rust};
+ghost use Rattle.form.specs.Call.{formCall};
+ghost use Rattle.cache.specs.Answers.{makeNumber, lookupNumber, lookupValue, insertNumber, noticeNumber, noticeValue, flushNumber, generationNumber, generationValue};
+ghost use Rattle.cache.specs.Calls.{makeCall, lookupCall, insertCall, noticeCall, flushCall, generationCall};
+ghost use Rattle.write.specs.Write.{writeNumber, writeValue, writeCall};
+ghost use Rattle.unvriscol.specs.Seen.{both, seen, seenWithTwo};
 
 // Document 01's number, and the value beside it, which is 0 at every number but 0.
 #[repr(C)]
@@ -35,6 +41,92 @@ pub extern "C" fn uv_alu(kind: u64, lhs: u64, rhs: u64) -> Answer
     ensures { λ r. ⌜ (r .number, r .value) ≡ aluCall kind lhs rhs ⌝ }
 {
     let answer = alu::alu_call(kind, lhs, rhs);
+    let number = answer.number();
+    let value = answer.value();
+    Answer { number, value }
+}
+
+// Forms the block at an address of guest memory into the lent block record.
+#[no_mangle]
+pub extern "C" fn uv_form(memory: &[u8], base: u64, address: u64, lent: &mut [u8]) -> u64
+    ensures { λ r. ⌜ (r, now (lent .exit)) ≡ formCall rust (now (memory .entry)) base address (now (lent .entry)) ⌝ }
+{
+    let answer = form::form(memory, base, address, lent);
+    answer.number()
+}
+
+// Makes a new store of the lent bytes.
+#[no_mangle]
+pub extern "C" fn uv_make(store: &mut [u8], e: u64, base: u64, pages: u64) -> u64
+    ensures { λ r. ⌜ (r, now (store .exit)) ≡ seen makeNumber (makeCall e base pages (now (store .entry))) ⌝ }
+{
+    let answer = cache::make(store, e, base, pages);
+    answer.number()
+}
+
+// Looks a block up; the value is where in the store its record begins.
+#[no_mangle]
+pub extern "C" fn uv_lookup(store: &[u8], address: u64) -> Answer
+    ensures { λ r. ⌜ (r .number, r .value) ≡ both lookupNumber lookupValue (lookupCall (now (store .entry)) address) ⌝ }
+{
+    let answer = cache::find(store, address);
+    let number = answer.number();
+    let value = answer.value();
+    Answer { number, value }
+}
+
+// Inserts the block record into the place of its address's slot.
+#[no_mangle]
+pub extern "C" fn uv_insert(store: &mut [u8], address: u64, lent: &[u8]) -> u64
+    ensures { λ r. ⌜ (r, now (store .exit)) ≡ seen insertNumber (insertCall (now (store .entry)) address (now (lent .entry))) ⌝ }
+{
+    let answer = cache::insert(store, address, lent);
+    answer.number()
+}
+
+// Notices a write at the address; the value is the slots examined.
+#[no_mangle]
+pub extern "C" fn uv_notice(store: &mut [u8], address: u64) -> Answer
+    ensures { λ r. ⌜ ((r .number, r .value), now (store .exit)) ≡ seen (both noticeNumber noticeValue) (noticeCall (now (store .entry)) address) ⌝ }
+{
+    let answer = cache::notice(store, address);
+    let number = answer.number();
+    let value = answer.value();
+    Answer { number, value }
+}
+
+// Empties the cache.
+#[no_mangle]
+pub extern "C" fn uv_flush(store: &mut [u8]) -> u64
+    ensures { λ r. ⌜ (r, now (store .exit)) ≡ seen flushNumber (flushCall (now (store .entry))) ⌝ }
+{
+    let answer = cache::flush(store);
+    answer.number()
+}
+
+// The value is the store's generation.
+#[no_mangle]
+pub extern "C" fn uv_generation(store: &[u8]) -> Answer
+    ensures { λ r. ⌜ (r .number, r .value) ≡ both generationNumber generationValue (generationCall (now (store .entry))) ⌝ }
+{
+    let answer = cache::generation(store);
+    let number = answer.number();
+    let value = answer.value();
+    Answer { number, value }
+}
+
+// Writes the low bytes of the value to guest memory, with a notice for each page touched; the value returned is the slots examined.
+#[no_mangle]
+pub extern "C" fn uv_guest_write(
+    store: &mut [u8],
+    memory: &mut [u8],
+    address: u64,
+    size: u64,
+    value: u64,
+) -> Answer
+    ensures { λ r. ⌜ ((r .number, r .value), now (store .exit), now (memory .exit)) ≡ seenWithTwo (both writeNumber writeValue) (writeCall (now (store .entry)) (now (memory .entry)) address size value) ⌝ }
+{
+    let answer = write::guest_write(store, memory, address, size, value);
     let number = answer.number();
     let value = answer.value();
     Answer { number, value }

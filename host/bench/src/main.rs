@@ -9,7 +9,6 @@
 //! Both sides are called and not inlined: ours is a C function, and the original's functions stand behind `#[inline(never)]`. Both leave their
 //! answer in memory, ours as a record of sixteen bytes, the original as an `Option<Op>`. Each round times both sides in turn, and the best
 //! round of each counts.
-mod stream;
 mod work;
 
 use std::process::{Command, ExitCode};

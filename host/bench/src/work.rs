@@ -1,6 +1,6 @@
 //! What is timed: a row of calls of one kind, on both sides.
-use crate::stream;
 use oracle::block::{self, AluKind};
+use oracle::made;
 use oracle::random::Random;
 use std::hint::black_box;
 use unvriscol::door::{uv_alu, uv_decode_halfword, uv_decode_word};
@@ -126,9 +126,9 @@ pub fn rows(image: Option<&str>) -> Result<Vec<Work>, String> {
     let (words, halfwords) = match image {
         Some(name) => {
             let bytes = std::fs::read(name).map_err(|error| format!("{name}: {error}"))?;
-            stream::split(&bytes)
+            made::split(&bytes)
         }
-        None => stream::made(CALLS, &mut random),
+        None => made::made(CALLS, &mut random),
     };
     let mut rows = vec![
         Work {

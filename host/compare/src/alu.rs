@@ -5,7 +5,7 @@ use oracle::random::Random;
 use unvriscol::door::{Answer, uv_alu};
 
 /// The kinds that are kept, in the original's order with their numbers.
-fn kept() -> impl Iterator<Item = AluKind> {
+pub fn kept() -> impl Iterator<Item = AluKind> {
     use AluKind::*;
     [
         Add, Sub, Sll, Slt, Sltu, Xor, Srl, Sra, Or, And, Addw, Subw, Sllw, Srlw, Sraw, Andn, Orn,

@@ -1,95 +1,30 @@
-//! The original Rust as the judge of every answer. Its files are included from the checkout as they stand. Modules that the checkout given to
-//! us lacks, and `execute`, which needs them, have stand-ins with what the included files name. `random` is ours: the numbers that comparison and
-//! benchmark put to both sides.
+//! The original Rust as the judge of every answer, unchanged; and what comparison, benchmark and example put to both sides. Without a checkout
+//! nothing of the original is here, and [`if_original`] says so.
+#[cfg(original)]
+pub mod bus;
+#[cfg(original)]
+pub mod made;
+#[cfg(original)]
+mod original;
 pub mod random;
 
+#[cfg(original)]
+pub use original::*;
+
 // block.rs names the hash map by its crate.
+#[cfg(original)]
 extern crate self as rustc_hash;
-pub type FxHashMap<K, V> = std::collections::HashMap<K, V>;
 
-/// A module of the original, whole and unchanged, with what stands behind it to reach its private parts.
-macro_rules! original {
-    ($module:ident, $file:literal $(; $($item:item)*)?) => {
-        #[allow(dead_code, unexpected_cfgs)]
-        pub mod $module {
-            include!(concat!(env!("VPOD_SOURCE"), "/", $file));
-            $($($item)*)?
-        }
-    };
+/// The first items where the original is at hand, and the second where it is not.
+#[cfg(original)]
+#[macro_export]
+macro_rules! if_original {
+    ({ $($here:item)* } else { $($not:item)* }) => { $($here)* };
 }
 
-original!(decode, "decode.rs");
-original!(extensions, "extensions.rs");
-original!(gpr, "gpr.rs");
-original!(mmu, "mmu.rs");
-original!(system_bus, "system_bus.rs");
-original!(trap, "trap.rs");
-original! {
-    block, "block.rs";
-
-    /// `decode_full`, which is private.
-    pub const WORD: fn(u32) -> Option<Op> = decode_full;
-    /// `decode_compressed`, which is private.
-    pub const HALFWORD: fn(u16) -> Option<Op> = decode_compressed;
-    /// `alu`, which the original inlines. Not here, as a C function is not.
-    #[inline(never)]
-    pub fn computed(kind: AluKind, lhs: u64, rhs: u64) -> u64 {
-        alu(kind, lhs, rhs)
-    }
-}
-
-/// Stand-in.
-pub mod csr {
-    #[derive(Clone, Copy, PartialEq)]
-    pub enum PrivMode {
-        M,
-        S,
-    }
-
-    pub struct Csr {
-        pub instret: u64,
-        pub satp: u64,
-    }
-}
-
-/// Stand-in: nothing is counted.
-pub mod perf {
-    macro_rules! notes {
-        ($($name:ident)*) => { $(#[inline(always)] pub fn $name() {})* };
-    }
-    notes!(note_bare_translate note_cross_page note_fallback_op note_load note_load_fast_hit note_store note_store_fast_hit);
-    notes!(note_store_page_eviction note_tlb_hit note_tlb_walk);
-}
-
-/// Stand-in.
-pub mod syscall_trace {
-    pub struct SyscallEntry;
-}
-
-/// Stand-in: the fields of the context that block.rs names. Nothing here executes an instruction.
-pub mod execute {
-    use crate::block::BlockCache;
-    use crate::csr::{Csr, PrivMode};
-    use crate::gpr::Gpr;
-    use crate::mmu::Mmu;
-    use crate::system_bus::SystemBus;
-    use crate::trap::StepResult;
-
-    pub struct ExecContext<'a, B: SystemBus> {
-        pub regs: &'a mut Gpr,
-        pub csr: &'a mut Csr,
-        pub mmu: &'a mut Mmu,
-        pub bus: &'a mut B,
-        pub priv_mode: &'a mut PrivMode,
-        pub is_waiting: &'a mut bool,
-        pub blocks: &'a mut BlockCache,
-    }
-
-    pub fn take_exception<B: SystemBus>(_: &mut ExecContext<B>, _: u64, _: u64) {
-        unreachable!("nothing is executed")
-    }
-
-    pub fn exec_raw<B: SystemBus>(_: &mut ExecContext<B>, _: u32, _: u64) -> StepResult {
-        unreachable!("nothing is executed")
-    }
+/// The first items where the original is at hand, and the second where it is not.
+#[cfg(not(original))]
+#[macro_export]
+macro_rules! if_original {
+    ({ $($here:item)* } else { $($not:item)* }) => { $($not)* };
 }

@@ -25,4 +25,50 @@ unsafe extern "C" {
     /// As for [`uv_decode_word`].
     pub fn uv_decode_halfword(raw: u16, record: *mut u8, record_len: usize) -> u64;
     pub safe fn uv_alu(kind: u64, lhs: u64, rhs: u64) -> Answer;
+    /// # Safety
+    /// `memory` points at `memory_len` bytes that nothing writes during the call, and `record` at `record_len` that nothing else touches. So
+    /// in all calls below: what a `*const` points at may be read by others meanwhile, what a `*mut` points at not.
+    pub fn uv_form(
+        memory: *const u8,
+        memory_len: usize,
+        base: u64,
+        address: u64,
+        record: *mut u8,
+        record_len: usize,
+    ) -> u64;
+    /// # Safety
+    /// As for [`uv_form`].
+    pub fn uv_make(store: *mut u8, store_len: usize, e: u64, base: u64, pages: u64) -> u64;
+    /// # Safety
+    /// As for [`uv_form`].
+    pub fn uv_lookup(store: *const u8, store_len: usize, address: u64) -> Answer;
+    /// # Safety
+    /// As for [`uv_form`].
+    pub fn uv_insert(
+        store: *mut u8,
+        store_len: usize,
+        address: u64,
+        record: *const u8,
+        record_len: usize,
+    ) -> u64;
+    /// # Safety
+    /// As for [`uv_form`].
+    pub fn uv_notice(store: *mut u8, store_len: usize, address: u64) -> Answer;
+    /// # Safety
+    /// As for [`uv_form`].
+    pub fn uv_flush(store: *mut u8, store_len: usize) -> u64;
+    /// # Safety
+    /// As for [`uv_form`].
+    pub fn uv_generation(store: *const u8, store_len: usize) -> Answer;
+    /// # Safety
+    /// As for [`uv_form`].
+    pub fn uv_guest_write(
+        store: *mut u8,
+        store_len: usize,
+        memory: *mut u8,
+        memory_len: usize,
+        address: u64,
+        size: u64,
+        value: u64,
+    ) -> Answer;
 }

@@ -1,5 +1,6 @@
-//! RISC-V words and halfwords to ops, and the ALU kinds without multiply and divide, by functions that are proved: on all inputs, equal to
-//! those of capsulerun/vpod that they replace. The names are the original's, so that its call sites change by an import.
+//! RISC-V words and halfwords to ops, blocks of them, a cache of blocks, and the ALU kinds without multiply and divide, by functions that are
+//! proved: on all inputs, equal to those of capsulerun/vpod that they replace. The names are the original's, so that its call sites change by
+//! an import.
 //!
 //! ```
 //! use unvriscol::{AluKind, Error, Op, alu, decode_halfword, decode_word};
@@ -20,14 +21,41 @@
 //! # Ok::<(), Error>(())
 //! ```
 //!
+//! The cache is one store of bytes. What the original's core does at a fetch, and a write that drops what was cached:
+//!
+//! ```
+//! use unvriscol::{BlockCache, Error, decode_block};
+//!
+//! // Two pages from 0x8000_0000 on, with addi a0, zero, 1 and ret at the start.
+//! let base = 0x8000_0000;
+//! let mut memory = vec![0; 8192];
+//! memory[..6].copy_from_slice(&[0x13, 0x05, 0x10, 0x00, 0x82, 0x80]);
+//!
+//! let mut blocks = BlockCache::new(14, base, 2)?;
+//! assert!(blocks.lookup(base).is_none());
+//! let decoded = decode_block(&(&memory[..], base), base).expect("two ops");
+//! let cached = blocks.insert(base, decoded);
+//! assert_eq!((cached.ops.len(), cached.byte_len), (2, 6));
+//! assert_eq!(blocks.lookup(base), Some(cached));
+//!
+//! // c.nop in place of the first halfword: the page's blocks are gone, after a look at all 2^14 slots.
+//! assert_eq!(blocks.guest_write(&mut memory, base, 2, 0x0001)?, 16_384);
+//! assert!(blocks.lookup(base).is_none());
+//! # Ok::<(), Error>(())
+//! ```
+//!
 //! The promises stand in docs/PROMISES.md; what this crate adds to them, the way from a record to an enum and back, is tested and not proved.
 
+mod block;
 pub mod door;
 mod error;
 mod op;
+mod store;
 
+pub use block::{Block, GuestMemory, MAX_BLOCK_OPS, Ops, decode_block, form, form_into};
 pub use error::Error;
 pub use op::{AluKind, BranchKind, DecodedInsn, LoadKind, Op, StoreKind};
+pub use store::{BlockCache, Store, store_len};
 
 /// Decodes a word: its op at offset 0, four bytes long. [`Error::NothingThere`] where the word has no op.
 pub fn decode_word(raw: u32) -> Result<DecodedInsn, Error> {

@@ -1,6 +1,6 @@
-//! Words and halfwords to decode: those of an image, or made ones in the proportions of compiled code.
-use oracle::block;
-use oracle::random::Random;
+//! Encodings in the proportions of compiled code: words and halfwords, and images of them; and those of an image that is there.
+use crate::block;
+use crate::random::Random;
 
 /// The words and halfwords of an image, as a hart would fetch them from its start on.
 pub fn split(bytes: &[u8]) -> (Vec<u32>, Vec<u16>) {
@@ -41,18 +41,32 @@ const MIX: [(u64, u32, &[u32], &[u32]); 13] = [
 /// Made encodings, all but a few of which have an op.
 pub fn made(count: usize, random: &mut Random) -> (Vec<u32>, Vec<u16>) {
     let words = (0..count).map(|_| word(random)).collect();
-    let halfwords = (0..count)
-        .map(|_| {
-            loop {
-                let raw = random.next() as u16;
-                // One in fifty stays as it was drawn, with an op or without.
-                if (block::HALFWORD)(raw).is_some() || random.below(50) == 0 {
-                    break raw;
-                }
-            }
-        })
-        .collect();
+    let halfwords = (0..count).map(|_| halfword(random)).collect();
     (words, halfwords)
+}
+
+/// An image of made code: six halfwords to four words, as compilers write.
+pub fn image(len: usize, random: &mut Random) -> Vec<u8> {
+    let mut image = Vec::with_capacity(len + 4);
+    while image.len() < len {
+        if random.below(10) < 6 {
+            image.extend(halfword(random).to_le_bytes());
+        } else {
+            image.extend(word(random).to_le_bytes());
+        }
+    }
+    image.truncate(len);
+    image
+}
+
+fn halfword(random: &mut Random) -> u16 {
+    loop {
+        let raw = random.next() as u16;
+        // One in fifty stays as it was drawn, with an op or without.
+        if (block::HALFWORD)(raw).is_some() || random.below(50) == 0 {
+            break raw;
+        }
+    }
 }
 
 fn word(random: &mut Random) -> u32 {

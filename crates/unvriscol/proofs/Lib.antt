@@ -1,0 +1,2 @@
+-- Laws that the functions of the door share.
+pub mod Passed

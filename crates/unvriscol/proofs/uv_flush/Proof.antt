@@ -1,0 +1,16 @@
+-- `unvriscol::uv_flush` meets its contract: the number is the answer's, and the bytes are as the call leaves them.
+-- Assumes nothing.
+use Rattle.cache.specs.Answers.{flushNumber}
+use Rattle.unvriscol.proofs.Passed.{passed}
+use borrow.Author.Needs.{needs}
+use Rattle.unvriscol.proofs.uv_flush.Statement.{statement}
+use Rattle.unvriscol.proofs.uv_flush.Tie as tie
+
+pub uv-flush-spec : {M : Type 1} → statement M
+uv-flush-spec =
+    tie.close
+    (tie.spec
+    (λ c κs. search needs) (λ c κs. search needs) (λ c. search needs)
+    (λ c.
+    let called = c .before .before .before .flush in
+    passed flushNumber (called .result) (c .number .ensures) (called .ensures)))

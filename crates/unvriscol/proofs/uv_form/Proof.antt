@@ -1,0 +1,12 @@
+-- `unvriscol::uv_form` meets its contract: the number is the answer's, and the bytes are as the call leaves them.
+-- Assumes nothing.
+use borrow.Author.Needs.{needs}
+use Rattle.unvriscol.proofs.uv_form.Statement.{statement}
+use Rattle.unvriscol.proofs.uv_form.Tie as tie
+
+pub uv-form-spec : {M : Type 1} → statement M
+uv-form-spec =
+    tie.close
+    (tie.spec
+    (λ c κs. search needs) (λ c κs. search needs) (λ c. search needs)
+    (λ c. rw (c .number .ensures) (c .before .before .before .form .ensures)))

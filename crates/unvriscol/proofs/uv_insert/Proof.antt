@@ -1,0 +1,16 @@
+-- `unvriscol::uv_insert` meets its contract: the number is the answer's, and the bytes are as the call leaves them.
+-- Assumes nothing.
+use Rattle.cache.specs.Answers.{insertNumber}
+use Rattle.unvriscol.proofs.Passed.{passed}
+use borrow.Author.Needs.{needs}
+use Rattle.unvriscol.proofs.uv_insert.Statement.{statement}
+use Rattle.unvriscol.proofs.uv_insert.Tie as tie
+
+pub uv-insert-spec : {M : Type 1} → statement M
+uv-insert-spec =
+    tie.close
+    (tie.spec
+    (λ c κs. search needs) (λ c κs. search needs) (λ c. search needs)
+    (λ c.
+    let called = c .before .before .before .insert in
+    passed insertNumber (called .result) (c .number .ensures) (called .ensures)))

@@ -1,0 +1,20 @@
+-- `unvriscol::uv_notice` meets its contract: number and value are the answer's, and the bytes are as the call leaves them.
+-- Assumes nothing.
+use mathlib.Core.Path.{refl}
+use Rattle.cache.specs.Answers.{noticeNumber, noticeValue}
+use Rattle.unvriscol.specs.Seen.{both}
+use Rattle.unvriscol.proofs.Passed.{both-passed, passed}
+use borrow.Author.Needs.{needs}
+use Rattle.unvriscol.proofs.uv_notice.Statement.{statement}
+use Rattle.unvriscol.proofs.uv_notice.Tie as tie
+
+pub uv-notice-spec : {M : Type 1} → statement M
+uv-notice-spec =
+    tie.close
+    (tie.spec
+    (λ c κs. search needs) (λ c κs. search needs) (λ c κs. search needs) (λ c. search needs)
+    (λ c.
+    let called = c .before .before .before .before .notice in
+    passed (both noticeNumber noticeValue) (called .result)
+    (both-passed noticeNumber noticeValue (called .result) (c .before .number .ensures) (c .value .ensures) refl)
+    (called .ensures)))

@@ -1,0 +1,2 @@
+-- What C sees of a call's outcome.
+pub mod Seen

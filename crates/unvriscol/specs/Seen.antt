@@ -1,0 +1,14 @@
+-- A call's outcome as C sees it: document 01's number, and the value beside it, stand in the place of the answer.
+-- Assumes nothing.
+use Prim.Native.Nat.{ℕ}
+use mathlib.Core.List.{List}
+
+abbrev pub both : {A : Type 0} → (A → ℕ) → (A → ℕ) → A → ℕ × ℕ
+both number value answer = (number answer, value answer)
+
+-- of a call that is lent one buffer to change, and of one that is lent two
+abbrev pub seen : {A B : Type 0} → (A → B) → A × List ℕ → B × List ℕ
+seen see outcome = (see (outcome .0), outcome .1)
+
+abbrev pub seenWithTwo : {A B : Type 0} → (A → B) → A × List ℕ × List ℕ → B × List ℕ × List ℕ
+seenWithTwo see outcome = (see (outcome .0), outcome .1, outcome .2)

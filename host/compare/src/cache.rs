@@ -1,0 +1,572 @@
+//! Histories of cache calls: against document 01's model at every slot count, with refusals and stores that were scribbled on; and against the
+//! original's `BlockCache` at its own.
+use crate::form::record_of;
+use crate::model::{self, OP, OPS, PAGE, RECORD, Shape};
+use crate::{Plan, Tally};
+use oracle::block::{self, BlockCache};
+use oracle::bus::Plain;
+use oracle::made;
+use oracle::mmu::Mmu;
+use oracle::random::Random;
+use unvriscol::door::{self, Answer};
+
+/// A call on a store and, for a write, on memory.
+#[derive(Clone, Debug)]
+pub enum Call {
+    Make(Shape),
+    Lookup(u64),
+    Insert(u64, Vec<u8>),
+    Notice(u64),
+    Flush,
+    Generation,
+    Write { address: u64, size: u64, value: u64 },
+}
+
+impl Call {
+    pub fn ours(&self, store: &mut [u8], memory: &mut [u8]) -> Answer {
+        let number = |number| Answer { number, value: 0 };
+        let (at, len) = (store.as_mut_ptr(), store.len());
+        // SAFETY: each pointer and length are those of one slice, lent for the call.
+        unsafe {
+            match self {
+                Self::Make(Shape { e, base, pages }) => {
+                    number(door::uv_make(at, len, *e, *base, *pages))
+                }
+                Self::Lookup(address) => door::uv_lookup(at, len, *address),
+                Self::Insert(address, record) => number(door::uv_insert(
+                    at,
+                    len,
+                    *address,
+                    record.as_ptr(),
+                    record.len(),
+                )),
+                Self::Notice(address) => door::uv_notice(at, len, *address),
+                Self::Flush => number(door::uv_flush(at, len)),
+                Self::Generation => door::uv_generation(at, len),
+                Self::Write {
+                    address,
+                    size,
+                    value,
+                } => door::uv_guest_write(
+                    at,
+                    len,
+                    memory.as_mut_ptr(),
+                    memory.len(),
+                    *address,
+                    *size,
+                    *value,
+                ),
+            }
+        }
+    }
+
+    pub fn model(&self, store: &mut [u8], memory: &mut [u8]) -> Answer {
+        let answer = match self {
+            Self::Make(shape) => model::make(store, *shape),
+            Self::Lookup(address) => model::lookup(store, *address),
+            Self::Insert(address, record) => model::insert(store, *address, record),
+            Self::Notice(address) => model::notice(store, *address),
+            Self::Flush => model::flush(store),
+            Self::Generation => model::generation(store),
+            Self::Write {
+                address,
+                size,
+                value,
+            } => model::guest_write(store, memory, *address, *size, *value),
+        };
+        match answer {
+            Ok(value) => Answer { number: 0, value },
+            Err(number) => Answer { number, value: 0 },
+        }
+    }
+}
+
+/// Bytes that are lent, with some around them that nothing may touch.
+#[derive(Clone, PartialEq)]
+struct Lent(Vec<u8>);
+
+impl Lent {
+    const AROUND: usize = 64;
+
+    fn new(bytes: &[u8]) -> Self {
+        let around = [0xA5; Self::AROUND];
+        Self([&around, bytes, &around].concat())
+    }
+
+    fn bytes(&mut self) -> &mut [u8] {
+        let end = self.0.len() - Self::AROUND;
+        &mut self.0[Self::AROUND..end]
+    }
+}
+
+/// One side's store and memory.
+#[derive(Clone, PartialEq)]
+struct Side {
+    store: Lent,
+    memory: Lent,
+}
+
+/// Draws calls that meet each other: few pages and few slots, their ends, and what lies outside.
+struct Draw {
+    random: Random,
+    shape: Shape,
+    /// Pages that most addresses lie in.
+    hot: Vec<u64>,
+    /// The original's view of memory, or of its first page where the whole is too large, to form blocks from.
+    bus: Plain,
+}
+
+impl Draw {
+    fn new(mut random: Random, shape: Shape, memory: &[u8]) -> Self {
+        let hot = (0..4)
+            .map(|_| shape.base + PAGE * random.below(shape.pages))
+            .chain([shape.base, shape.base + PAGE * (shape.pages - 1)])
+            .collect();
+        let bus = Plain {
+            bytes: memory.to_vec(),
+            base: shape.base,
+        };
+        Self {
+            random,
+            shape,
+            hot,
+            bus,
+        }
+    }
+
+    fn one<T: Copy>(&mut self, of: &[T]) -> T {
+        of[self.random.below(of.len() as u64) as usize]
+    }
+
+    /// An address in memory: on a page that others lie on, and often in a slot that others have.
+    fn inside(&mut self) -> u64 {
+        let hot = self.hot.clone();
+        let page = self.one(&hot);
+        match self.random.below(8) {
+            0 => page + self.one(&[0, 1, 2, 4094, 4095]),
+            1 => page + self.random.below(PAGE),
+            2 => self.shape.base + self.random.below(PAGE * self.shape.pages),
+            _ => page + self.random.below(24),
+        }
+    }
+
+    fn address(&mut self) -> u64 {
+        let Shape { base, pages, .. } = self.shape;
+        let end = base + PAGE * pages;
+        if self.random.below(16) != 0 {
+            return self.inside();
+        }
+        let near = self.one(&[base, end, 0, 1 << 56, 1 << 63]);
+        let step = self.random.below(12);
+        match self.random.below(4) {
+            0 => near.wrapping_add(step),
+            1 => near.wrapping_sub(step),
+            2 => self.inside() ^ 1 << (12 + self.random.below(52)),
+            _ => self.random.wide(),
+        }
+    }
+
+    /// A record that is well formed for an address: what the original forms there, or else any ops that fit.
+    fn record(&mut self, address: u64) -> Vec<u8> {
+        let seen =
+            address >= self.bus.base && address - self.bus.base < self.bus.bytes.len() as u64;
+        if seen
+            && self.random.below(4) != 0
+            && let Some(block) = block::decode_block(&mut self.bus, address)
+        {
+            return record_of(&block, address).to_vec();
+        }
+        self.made_record(address, false)
+    }
+
+    /// Any ops that fit; or, flawed, with one rule broken at one of them and all others kept.
+    fn made_record(&mut self, address: u64, flawed: bool) -> Vec<u8> {
+        let mut record = vec![0; RECORD];
+        record[..8].copy_from_slice(&address.to_le_bytes());
+        let most = self.one(&[1, 2, 5, 64]);
+        let flaw_at = if flawed {
+            self.random.below(most.min(4))
+        } else {
+            most
+        };
+        let (mut count, mut offset) = (0, 0u16);
+        while count < most {
+            let flaw = (count == flaw_at).then(|| self.random.below(8));
+            let mut op = self.random.below(10) as u8;
+            let (kinds, has) = OPS[op as usize];
+            let mut ilen = if op == 9 { 4 } else { self.one(&[2, 4]) };
+            let mut kind = self.random.below(kinds.into()) as u8;
+            let mut registers = [0; 3];
+            for (register, has) in registers.iter_mut().zip(has) {
+                *register = if has { self.random.below(32) as u8 } else { 0 };
+            }
+            let mut imm = match (op, has[3]) {
+                (9, _) => self.random.next() >> 32,
+                (_, true) => self.random.wide(),
+                _ => 0,
+            };
+            match flaw {
+                Some(0) => op = self.one(&[10, 11, 64, 255]),
+                Some(1) => kind = self.one(&[kinds, kinds + 1, 255]),
+                Some(2 | 3) => {
+                    registers[self.random.below(3) as usize] = self.one(&[1, 31, 32, 255])
+                }
+                Some(4) => ilen = self.one(&[0, 1, 2, 3, 6, 8]),
+                Some(5) => imm |= 1 << self.random.below(64),
+                _ => {}
+            }
+            let end = address % PAGE + u64::from(offset) + u64::from(ilen);
+            if end > PAGE && flaw != Some(6) {
+                break;
+            }
+            let place = &mut record[16 + OP * count as usize..][..OP];
+            place[..2].copy_from_slice(&[op, kind]);
+            place[2..5].copy_from_slice(&registers);
+            place[5] = ilen;
+            place[6..8].copy_from_slice(&offset.to_le_bytes());
+            place[8..].copy_from_slice(&imm.to_le_bytes());
+            count += 1;
+            offset += u16::from(ilen);
+            if (op == 7 || op == 8) && flaw != Some(7) {
+                break;
+            }
+        }
+        record[8..10].copy_from_slice(&(count as u16).to_le_bytes());
+        record[10..12].copy_from_slice(&offset.to_le_bytes());
+        record
+    }
+
+    /// A record with one thing wrong, or with what only looks so.
+    fn odd_record(&mut self, address: u64) -> Vec<u8> {
+        if self.random.below(2) == 0 {
+            return self.made_record(address, true);
+        }
+        let mut record = self.record(address);
+        let used = 16 + OP * usize::from(record[8]);
+        let at = match self.random.below(4) {
+            0 => self.random.below(16) as usize,
+            1 => self.random.below(RECORD as u64) as usize,
+            _ => self.random.below(used as u64) as usize,
+        };
+        match self.random.below(6) {
+            0 => record.truncate(self.one(&[0, 16, 1024, 1039])),
+            1 => record.push(0),
+            2 => record[at] ^= 1 << self.random.below(8),
+            3 => record[at] = record[at].wrapping_add(1),
+            // Jal in the place of the op there.
+            4 => record[(at - at % OP).max(16)] = 7,
+            _ => record[at] = self.random.next() as u8,
+        }
+        record
+    }
+
+    fn call(&mut self) -> Call {
+        match self.random.below(100) {
+            0..35 => {
+                let address = self.address();
+                let record = match self.random.below(8) {
+                    0 | 1 => self.odd_record(address),
+                    2 => {
+                        let other = self.address();
+                        self.record(other)
+                    }
+                    _ => self.record(address),
+                };
+                Call::Insert(address, record)
+            }
+            35..65 => Call::Lookup(self.address()),
+            65..77 => Call::Notice(self.address()),
+            77..93 => {
+                let mut address = self.address();
+                if self.random.below(3) == 0 {
+                    address = (address | 0xFFF).wrapping_sub(self.random.below(9));
+                }
+                Call::Write {
+                    address,
+                    size: self.one(&[1, 2, 4, 8, 8, 8, 8, 8, 0, 3, 5, 7, 9, 16, 1 << 32, u64::MAX]),
+                    value: self.random.next(),
+                }
+            }
+            93..98 => Call::Generation,
+            98 => Call::Flush,
+            _ if self.random.below(4) != 0 => Call::Generation,
+            _ => {
+                let mut shape = self.shape;
+                match self.random.below(8) {
+                    0 => shape.e = self.one(&[15, 64, 256, u64::MAX, shape.e ^ 1]),
+                    1 => shape.pages = self.one(&[0, 65_537, 1 << 52, 1 << 60, shape.pages + 64]),
+                    2 => shape.base = self.one(&[1, 2048, 1 << 56, u64::MAX - 4095]),
+                    _ => {}
+                }
+                Call::Make(shape)
+            }
+        }
+    }
+
+    /// Changes a byte or a number of a store as no call would.
+    fn scribble(&mut self, store: &mut [u8]) {
+        let Shape { base, pages, .. } = self.shape;
+        let front = self.shape.place(0).start;
+        let slot = self.random.below(self.shape.slots());
+        let place = self.shape.place(slot);
+        let address = self.address();
+        let mut number = |at: usize, number: u64| {
+            store[at..at + 8].copy_from_slice(&number.to_le_bytes());
+        };
+        match self.random.below(12) {
+            0 => number(24, self.random.wide()),
+            1 => number(24, u64::MAX),
+            2 => number(8, self.random.wide()),
+            3 => number(8, base ^ PAGE << self.random.below(44)),
+            4 => number(16, pages ^ 1 << self.random.below(20)),
+            5 => store[self.random.below(24) as usize] ^= 1 << self.random.below(8),
+            6 => store[6] = self.random.below(16) as u8,
+            7 => {
+                store[32 + self.random.below(front as u64 - 32) as usize] = self.random.next() as u8
+            }
+            8 | 9 => number(place.start, address),
+            10 => number(place.start, u64::MAX),
+            _ => {
+                store[place.start + self.random.below(RECORD as u64) as usize] =
+                    self.random.next() as u8
+            }
+        }
+    }
+}
+
+/// One history: so many calls on one store, every lent byte compared after each.
+fn history(
+    shape: Shape,
+    calls: u64,
+    scribbled: bool,
+    mut random: Random,
+    numbers: &mut [u64; 10],
+    tally: &mut Tally,
+) {
+    // A memory too large to compare at each call is not lent, but its first page: writes are then refused.
+    let whole = shape.pages * PAGE;
+    let lent = if whole > 1 << 20 { PAGE } else { whole };
+    let memory = made::image(lent as usize, &mut random);
+    let mut draw = Draw::new(random, shape, &memory);
+    let mut ours = Side {
+        store: Lent::new(&vec![0xC3; shape.store_len()]),
+        memory: Lent::new(&memory),
+    };
+    let mut model = ours.clone();
+    let mut sound = None;
+    for step in 0..calls {
+        let call = if step == 1 {
+            Call::Make(shape)
+        } else {
+            draw.call()
+        };
+        if scribbled && step > 1 && draw.random.below(24) == 0 {
+            // The header comes back some calls after it was changed.
+            let header = model.store.bytes()[..24].to_vec();
+            draw.scribble(ours.store.bytes());
+            model.store = ours.store.clone();
+            if model.store.bytes()[..24] != header && sound.is_none() {
+                sound = Some((step + draw.random.below(6), header));
+            }
+        }
+        if let Some((until, header)) = &sound
+            && *until <= step
+        {
+            for side in [&mut ours, &mut model] {
+                side.store.bytes()[..24].copy_from_slice(header);
+            }
+            sound = None;
+        }
+        let expected = call.model(model.store.bytes(), model.memory.bytes());
+        let lent = call.clone();
+        let answer = lent.ours(ours.store.bytes(), ours.memory.bytes());
+        let kept = match (&call, &lent) {
+            (Call::Insert(_, before), Call::Insert(_, after)) => before == after,
+            _ => true,
+        };
+        numbers[expected.number as usize] += 1;
+        let same = ours == model;
+        tally.expect(answer == expected && same && kept, || {
+            format!("{shape:x?}, call {step}, {call:x?}: document 01 gives {expected:?}, ours {answer:?}; lent bytes {}", if same { "the same" } else { "differ" })
+        });
+        if !same {
+            ours = model.clone();
+        }
+        if let Call::Write { address, size, .. } = call
+            && answer.number == 0
+        {
+            // The base is what the header says now.
+            let at = (address - model::number(ours.store.bytes(), 8)) as usize;
+            let written = at..at + size as usize;
+            draw.bus.bytes[written.clone()].copy_from_slice(&ours.memory.bytes()[written]);
+        }
+    }
+}
+
+/// Every slot count, with as many calls as some gigabytes of comparing allow.
+pub fn histories(plan: &Plan, tally: &mut Tally) {
+    let budget: u64 = if plan.all { 1 << 37 } else { 1 << 34 };
+    let mut part = 0x100;
+    let mut numbers = [0; 10];
+    for e in 0..=14 {
+        for (pages, base) in [
+            (1, 0),
+            (2, 0x8000_0000),
+            (3, (1 << 56) - 3 * PAGE),
+            (65, 0x1000),
+            (128, 0x8000_0000),
+            (65_536, 0),
+            (65_536, (1 << 56) - 65_536 * PAGE),
+        ] {
+            let shape = Shape { e, base, pages };
+            let lent = shape.store_len() as u64 + (pages * PAGE).min(1 << 20);
+            let calls = (budget / 7 / lent).clamp(40, 50_000);
+            for scribbled in [false, true] {
+                part += 1;
+                history(
+                    shape,
+                    calls / 2,
+                    scribbled,
+                    Random::new(plan.seed, part),
+                    &mut numbers,
+                    tally,
+                );
+            }
+        }
+    }
+    println!("answers by number, from 0 on: {numbers:?}");
+}
+
+/// The original's cache beside ours at e = 14: numbers, values and records at each call; all slots, tags and page marks at every 512th.
+pub fn original(plan: &Plan, tally: &mut Tally) {
+    for (part, (pages, base)) in [(2, 0), (9, 0x8000_0000), (70, 0x1000)]
+        .into_iter()
+        .enumerate()
+    {
+        let shape = Shape { e: 14, base, pages };
+        let mut random = Random::new(plan.seed, 0x200 + part as u64);
+        let memory = made::image((pages * PAGE) as usize, &mut random);
+        let mut draw = Draw::new(random, shape, &memory);
+        let mut ours = Side {
+            store: Lent::new(&vec![0; shape.store_len()]),
+            memory: Lent::new(&memory),
+        };
+        let mut rust = BlockCache::new();
+        let mut mmu = Mmu::new();
+        Call::Make(shape).ours(ours.store.bytes(), &mut []);
+        for step in 0..if plan.all { 1_000_000 } else { 70_000 } {
+            let call = match draw.call() {
+                // The original takes any block; what document 01 refuses is not put to it.
+                Call::Insert(address, _) if shape.holds(address) => {
+                    let Some(block) = block::decode_block(&mut draw.bus, address) else {
+                        continue;
+                    };
+                    let record = record_of(&block, address).to_vec();
+                    rust.insert(address, block);
+                    Call::Insert(address, record)
+                }
+                Call::Insert(..) | Call::Make(_) => continue,
+                Call::Write { address, size, .. }
+                    if !([1, 2, 4, 8].contains(&size)
+                        && shape.holds(address)
+                        && shape.holds(address + size - 1)) =>
+                {
+                    continue;
+                }
+                call => call,
+            };
+            let examined = |address| {
+                let marked = block::marked(&rust, address / PAGE);
+                if marked { block::SLOTS as u64 } else { 0 }
+            };
+            let value = match &call {
+                Call::Notice(address) => {
+                    let value = examined(*address);
+                    rust.notify_store(*address);
+                    value
+                }
+                Call::Write {
+                    address,
+                    size,
+                    value,
+                } => {
+                    let last = address + size - 1;
+                    let second = if last / PAGE == address / PAGE {
+                        0
+                    } else {
+                        examined(last)
+                    };
+                    let sum = examined(*address) + second;
+                    block::raw_store(
+                        &mut mmu,
+                        &mut draw.bus,
+                        &mut rust,
+                        0,
+                        *address,
+                        *value,
+                        *size,
+                    )
+                    .expect("no translation");
+                    sum
+                }
+                Call::Flush => {
+                    rust.flush_all();
+                    0
+                }
+                Call::Generation => rust.code_generation(),
+                _ => 0,
+            };
+            let answer = call.ours(ours.store.bytes(), ours.memory.bytes());
+            let same = if let Call::Lookup(address) = call {
+                match rust.lookup(address) {
+                    Some(block) => {
+                        let place = shape.place_of(address);
+                        let record = record_of(&block, address);
+                        answer
+                            == Answer {
+                                number: 0,
+                                value: place.start as u64,
+                            }
+                            && ours.store.bytes()[place] == record
+                    }
+                    None => {
+                        answer
+                            == Answer {
+                                number: 9,
+                                value: 0,
+                            }
+                    }
+                }
+            } else {
+                answer == Answer { number: 0, value }
+            };
+            let whole = step % 512 != 0
+                || (ours.memory.bytes() == draw.bus.bytes
+                    && store_of(&rust, shape) == ours.store.bytes());
+            tally.expect(same && whole, || {
+                format!("{call:x?}: ours {answer:?}, not what the Rust does (its value {value})")
+            });
+        }
+        let whole =
+            ours.memory.bytes() == draw.bus.bytes && store_of(&rust, shape) == ours.store.bytes();
+        tally.expect(whole, || "the store at the end".into());
+    }
+}
+
+/// What the original's cache is as a store.
+pub fn store_of(rust: &BlockCache, shape: Shape) -> Vec<u8> {
+    let mut store = vec![0; shape.store_len()];
+    model::make(&mut store, shape).expect("a shape within the bounds");
+    store[24..32].copy_from_slice(&rust.code_generation().to_le_bytes());
+    for page in 0..shape.pages {
+        if block::marked(rust, shape.base / PAGE + page) {
+            store[32 + page as usize / 8] |= 1 << (page % 8);
+        }
+    }
+    for slot in 0..block::SLOTS {
+        if let (tag, Some(block)) = block::slot(rust, slot) {
+            store[shape.place_of(tag)].copy_from_slice(&record_of(block, tag));
+        }
+    }
+    store
+}

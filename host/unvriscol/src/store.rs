@@ -1,0 +1,269 @@
+//! The block cache: one store of bytes, owned or lent, and the calls on it.
+use crate::{Block, Error, door};
+
+/// A block cache in one buffer of bytes: a `Box` of its own by default, or whatever the caller has, as a `&mut [u8]`.
+///
+/// The bytes are a store from the start on, and nothing but the calls changes them, which are proved to leave a store. So calls that are
+/// refused only where there is no store give plain answers here. The methods with the original's names take and give what the original's do.
+#[derive(Clone, Debug)]
+pub struct Store<B = Box<[u8]>> {
+    bytes: B,
+}
+
+/// The original's name.
+pub type BlockCache = Store;
+
+const KEPT: &str = "a store is proved to stay one";
+
+/// The length of a store with 2^e slots over a memory of so many pages, or none outside the bounds.
+pub fn store_len(e: u64, pages: u64) -> Option<usize> {
+    (e <= 14 && (1..=65_536).contains(&pages))
+        .then(|| 32 + pages.div_ceil(64) as usize * 8 + (Block::LEN << e))
+}
+
+impl Store {
+    /// A new store in memory of its own: 2^e slots, over a memory of so many pages from the base on. [`Error::Geometry`] outside the bounds.
+    pub fn new(e: u64, base: u64, pages: u64) -> Result<Self, Error> {
+        // Outside the bounds no length is right, and the call says so.
+        let len = store_len(e, pages).unwrap_or(0);
+        Self::make(vec![0; len].into_boxed_slice(), e, base, pages)
+    }
+}
+
+impl<B: AsRef<[u8]> + AsMut<[u8]>> Store<B> {
+    /// A new store in the caller's bytes, whatever they hold. [`Error::NoStore`] where their number is not [`store_len`]'s.
+    pub fn make(mut bytes: B, e: u64, base: u64, pages: u64) -> Result<Self, Error> {
+        let lent = bytes.as_mut();
+        // SAFETY: here and below, a pointer and a length are those of one slice, lent for the call, and alone where it is lent to be written.
+        Error::check(unsafe { door::uv_make(lent.as_mut_ptr(), lent.len(), e, base, pages) })?;
+        Ok(Self { bytes })
+    }
+
+    /// The store that the caller's bytes are. [`Error::NoStore`] where their length or header is not a store's; nothing else is judged.
+    pub fn open(bytes: B) -> Result<Self, Error> {
+        let store = Self { bytes };
+        store.generation()?;
+        Ok(store)
+    }
+
+    /// The store's bytes.
+    pub fn as_bytes(&self) -> &[u8] {
+        self.bytes.as_ref()
+    }
+
+    /// The store's bytes, given back.
+    pub fn into_bytes(self) -> B {
+        self.bytes
+    }
+
+    /// The block record at an address: its 1,040 bytes within the store. [`Error::Miss`] where the cache has none.
+    #[inline]
+    pub fn find(&self, address: u64) -> Result<&[u8], Error> {
+        let bytes = self.bytes.as_ref();
+        // SAFETY: as in `make`.
+        let at = unsafe { door::uv_lookup(bytes.as_ptr(), bytes.len(), address) }.checked()?;
+        Ok(&bytes[at as usize..][..Block::LEN])
+    }
+
+    /// Keeps a block record for its address. [`Error::OutsideMemory`], [`Error::IllFormed`] or [`Error::RecordLength`] where it is none.
+    #[inline]
+    pub fn put(&mut self, address: u64, record: &[u8]) -> Result<(), Error> {
+        let bytes = self.bytes.as_mut();
+        // SAFETY: as in `make`.
+        Error::check(unsafe {
+            door::uv_insert(
+                bytes.as_mut_ptr(),
+                bytes.len(),
+                address,
+                record.as_ptr(),
+                record.len(),
+            )
+        })
+    }
+
+    /// Drops the blocks of the address's page. How many slots were examined: all, or none where the page had no block.
+    #[inline]
+    pub fn notice(&mut self, address: u64) -> u64 {
+        let bytes = self.bytes.as_mut();
+        // SAFETY: as in `make`.
+        unsafe { door::uv_notice(bytes.as_mut_ptr(), bytes.len(), address) }
+            .checked()
+            .expect(KEPT)
+    }
+
+    /// Writes the low bytes of a value to the guest's memory, 1, 2, 4 or 8 of them, and drops the blocks of each page that it touches. How many
+    /// slots were examined. [`Error::Geometry`] where the memory is not as long as the store's, [`Error::WriteSize`], [`Error::OutsideMemory`].
+    #[inline]
+    pub fn guest_write(
+        &mut self,
+        memory: &mut [u8],
+        address: u64,
+        size: u64,
+        value: u64,
+    ) -> Result<u64, Error> {
+        let bytes = self.bytes.as_mut();
+        // SAFETY: as in `make`.
+        unsafe {
+            door::uv_guest_write(
+                bytes.as_mut_ptr(),
+                bytes.len(),
+                memory.as_mut_ptr(),
+                memory.len(),
+                address,
+                size,
+                value,
+            )
+        }
+        .checked()
+    }
+
+    fn generation(&self) -> Result<u64, Error> {
+        let bytes = self.bytes.as_ref();
+        // SAFETY: as in `make`.
+        unsafe { door::uv_generation(bytes.as_ptr(), bytes.len()) }.checked()
+    }
+}
+
+/// The original's methods.
+impl<B: AsRef<[u8]> + AsMut<[u8]>> Store<B> {
+    /// The block at an address, if the cache has it: a copy of what [`Store::find`] finds. A record that is no block's, as only opened bytes can
+    /// have, is not found.
+    #[inline]
+    pub fn lookup(&self, physical_address: u64) -> Option<Block> {
+        Block::from_record(self.find(physical_address).ok()?)
+    }
+
+    /// Keeps a block for an address, and hands it back to be run. One that [`Store::put`] refuses, as outside memory, is not kept.
+    pub fn insert(&mut self, physical_address: u64, block: Block) -> Block {
+        let _ = self.put(physical_address, &block.to_record(physical_address));
+        block
+    }
+
+    /// [`Store::notice`], with no answer.
+    #[inline]
+    pub fn notify_store(&mut self, physical_address: u64) {
+        self.notice(physical_address);
+    }
+
+    /// Drops every block.
+    pub fn flush_all(&mut self) {
+        let bytes = self.bytes.as_mut();
+        // SAFETY: as in `make`.
+        Error::check(unsafe { door::uv_flush(bytes.as_mut_ptr(), bytes.len()) }).expect(KEPT);
+    }
+
+    /// One more than the insertions so far.
+    #[inline]
+    pub fn code_generation(&self) -> u64 {
+        self.generation().expect(KEPT)
+    }
+}
+
+#[cfg(test)]
+mod tests {
+    use super::*;
+    use crate::{GuestMemory, decode_block};
+
+    const BASE: u64 = 0x8000_0000;
+
+    /// Two pages, each with addi a0, zero, 1 and ret at its start.
+    fn memory() -> Vec<u8> {
+        let mut memory = vec![0; 8192];
+        for page in memory.chunks_exact_mut(4096) {
+            page[..6].copy_from_slice(&[0x13, 0x05, 0x10, 0x00, 0x82, 0x80]);
+        }
+        memory
+    }
+
+    /// The core's loop on a miss, with the original's names alone.
+    fn step<M: GuestMemory, B: AsRef<[u8]> + AsMut<[u8]>>(
+        blocks: &mut Store<B>,
+        bus: &mut M,
+        address: u64,
+    ) -> Option<u32> {
+        if let Some(cached) = blocks.lookup(address) {
+            return Some(cached.byte_len);
+        }
+        if let Some(decoded) = decode_block(bus, address) {
+            let cached = blocks.insert(address, decoded);
+            return Some(cached.byte_len);
+        }
+        None
+    }
+
+    #[test]
+    fn a_block_until_its_page_is_written() {
+        let mut memory = memory();
+        let mut store = BlockCache::new(2, BASE, 2).unwrap();
+        assert_eq!(store.as_bytes().len(), 4200);
+        for at in [BASE, BASE + 4100] {
+            step(&mut store, &mut (&memory[..], BASE), at);
+        }
+        assert_eq!(store.lookup(BASE), decode_block(&(&memory[..], BASE), BASE));
+        assert_eq!(store.find(BASE).unwrap().len(), Block::LEN);
+        assert_eq!(store.code_generation(), 3);
+        // c.li a0, 2 and ret
+        let written = store.guest_write(&mut memory, BASE, 4, 0x8082_4509);
+        assert_eq!(written, Ok(4));
+        assert_eq!(store.lookup(BASE), None);
+        assert!(store.lookup(BASE + 4100).is_some());
+        assert_eq!(step(&mut store, &mut (&memory[..], BASE), BASE), Some(4));
+        assert_eq!(store.notice(BASE + 4097), 4);
+        assert_eq!(store.notice(BASE + 4097), 0);
+        store.flush_all();
+        assert_eq!(store.find(BASE), Err(Error::Miss));
+        assert_eq!(store.code_generation(), 4);
+    }
+
+    #[test]
+    fn lent_bytes() {
+        let mut bytes = vec![0xA5; 4200];
+        let mut store = Store::make(&mut bytes[..], 2, BASE, 2).unwrap();
+        step(&mut store, &mut (&memory()[..], BASE), BASE);
+        let mut again = Store::open(bytes).unwrap();
+        assert!(again.lookup(BASE).is_some());
+        again.notify_store(BASE);
+        assert!(again.lookup(BASE).is_none());
+    }
+
+    #[test]
+    fn refusals() {
+        assert_eq!(Store::new(15, 0, 1).unwrap_err(), Error::Geometry);
+        assert_eq!(Store::new(2, 0, 65_537).unwrap_err(), Error::Geometry);
+        assert_eq!(Store::new(2, 1, 1).unwrap_err(), Error::Geometry);
+        assert_eq!(
+            Store::make(vec![0; 4199], 2, 0, 1).unwrap_err(),
+            Error::NoStore
+        );
+        assert_eq!(Store::open(vec![0; 4200]).unwrap_err(), Error::NoStore);
+        let mut store = Store::new(2, BASE, 2).unwrap();
+        let block = decode_block(&(&memory()[..], BASE), BASE).unwrap();
+        let record = block.to_record(BASE);
+        assert_eq!(store.put(BASE - 4096, &record), Err(Error::OutsideMemory));
+        assert_eq!(store.put(BASE + 2, &record), Err(Error::IllFormed));
+        assert_eq!(store.put(BASE, &record[1..]), Err(Error::RecordLength));
+        assert_eq!(
+            store.guest_write(&mut [0; 4096], BASE, 8, 0),
+            Err(Error::Geometry)
+        );
+        assert_eq!(
+            store.guest_write(&mut memory(), BASE, 3, 0),
+            Err(Error::WriteSize)
+        );
+        assert_eq!(
+            store.guest_write(&mut memory(), BASE + 8185, 8, 0),
+            Err(Error::OutsideMemory)
+        );
+        // Handed back, and not kept.
+        assert_eq!(store.insert(0, block.clone()), block);
+        assert_eq!(store.code_generation(), 1);
+    }
+
+    #[test]
+    fn lengths() {
+        assert_eq!(store_len(2, 1), Some(4200));
+        assert_eq!(store_len(14, 65_536), Some(17_047_584));
+        assert_eq!(store_len(15, 1), None);
+        assert_eq!(store_len(0, 0), None);
+    }
+}
