@@ -58,9 +58,9 @@ fn main() -> ExitCode {
         "| {unit} per call | Rust | floor | ours | ours over Rust | ours over floor | target |"
     );
     println!("|---|---|---|---|---|---|---|");
-    for at in 0..rows.len() {
+    for (at, work) in rows.iter_mut().enumerate() {
         let costs = if plan.instructions {
-            match counted(at, &rows[at], plan.image.as_deref()) {
+            match counted(at, work, plan.image.as_deref()) {
                 Ok(counts) => counts,
                 Err(why) => {
                     eprintln!("{why}");
@@ -68,9 +68,9 @@ fn main() -> ExitCode {
                 }
             }
         } else {
-            timed(&mut rows[at])
+            timed(work)
         };
-        println!("{}", line(&rows[at], costs));
+        println!("{}", line(work, costs));
     }
     ExitCode::SUCCESS
 }

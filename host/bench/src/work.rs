@@ -82,7 +82,7 @@ impl Calls for Alu {
     }
     fn pass(&mut self, side: Side) -> u64 {
         match side {
-            Side::Rust => sum(&self.0, |kind, lhs, rhs| block::computed(kind, lhs, rhs)),
+            Side::Rust => sum(&self.0, block::computed),
             _ => sum(&self.0, |kind, lhs, rhs| {
                 let answer = uv_alu(kind as u64, lhs, rhs);
                 answer.number + answer.value
