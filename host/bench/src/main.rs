@@ -55,7 +55,7 @@ fn main() -> ExitCode {
         "ns"
     };
     println!(
-        "| {unit} per call | Rust | floor | ours | ours over Rust | ours over floor | target |"
+        "| {unit} per call | Rust | floor | ours | ours over Rust | ours over floor | target (time) |"
     );
     println!("|---|---|---|---|---|---|---|");
     for (at, work) in rows.iter_mut().enumerate() {
