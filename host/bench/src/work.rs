@@ -1,59 +1,89 @@
-//! What is timed: a row of calls of one kind, on both sides.
+//! What is timed: a row of calls of one kind, on each side.
+use crate::cache;
 use oracle::block::{self, AluKind};
 use oracle::made;
 use oracle::random::Random;
 use std::hint::black_box;
 use unvriscol::door::{uv_alu, uv_decode_halfword, uv_decode_word};
 
-#[derive(Clone, Copy)]
+#[derive(Clone, Copy, PartialEq)]
 pub enum Side {
     Rust,
+    /// The least that the work can cost: the loads or the stores that it must make.
+    Floor,
     Ours,
 }
 
 impl Side {
-    pub const BOTH: [Self; 2] = [Self::Rust, Self::Ours];
+    pub const ALL: [Self; 3] = [Self::Rust, Self::Floor, Self::Ours];
 }
 
-enum Calls {
-    Words(Vec<u32>),
-    Halfwords(Vec<u16>),
-    Alu(Vec<(AluKind, u64, u64)>),
+/// The most that ours may take, over another side.
+#[derive(Clone, Copy)]
+pub struct Target {
+    pub over: Side,
+    pub most: f64,
+}
+
+/// The calls of a row.
+pub trait Calls {
+    /// How many a pass makes.
+    fn len(&self) -> usize;
+    /// What a pass needs beforehand, which is not measured.
+    fn prepare(&mut self, _: Side) {}
+    /// Makes every call once.
+    fn pass(&mut self, side: Side) -> u64;
+    /// What is to be done afterwards, which is not measured.
+    fn tidy(&mut self, _: Side) {}
 }
 
 pub struct Work {
-    pub name: &'static str,
-    calls: Calls,
+    pub name: String,
+    pub sides: &'static [Side],
+    pub target: Option<Target>,
+    pub calls: Box<dyn Calls>,
 }
 
-impl Work {
-    pub fn len(&self) -> usize {
-        match &self.calls {
-            Calls::Words(calls) => calls.len(),
-            Calls::Halfwords(calls) => calls.len(),
-            Calls::Alu(calls) => calls.len(),
+const BOTH: &[Side] = &[Side::Rust, Side::Ours];
+
+struct Words(Vec<u32>);
+
+impl Calls for Words {
+    fn len(&self) -> usize {
+        self.0.len()
+    }
+    fn pass(&mut self, side: Side) -> u64 {
+        match side {
+            Side::Rust => decoded(&self.0, block::WORD),
+            _ => recorded(&self.0, uv_decode_word),
         }
     }
+}
 
-    /// The most that ours may take, over the Rust's.
-    pub fn target(&self) -> f64 {
-        match self.calls {
-            Calls::Words(_) | Calls::Halfwords(_) => 0.95,
-            Calls::Alu(_) => 1.2,
+struct Halfwords(Vec<u16>);
+
+impl Calls for Halfwords {
+    fn len(&self) -> usize {
+        self.0.len()
+    }
+    fn pass(&mut self, side: Side) -> u64 {
+        match side {
+            Side::Rust => decoded(&self.0, block::HALFWORD),
+            _ => recorded(&self.0, uv_decode_halfword),
         }
     }
+}
 
-    /// Makes every call once.
-    pub fn pass(&self, side: Side) -> u64 {
-        match (&self.calls, side) {
-            (Calls::Words(calls), Side::Rust) => decoded(calls, block::WORD),
-            (Calls::Halfwords(calls), Side::Rust) => decoded(calls, block::HALFWORD),
-            (Calls::Words(calls), Side::Ours) => recorded(calls, uv_decode_word),
-            (Calls::Halfwords(calls), Side::Ours) => recorded(calls, uv_decode_halfword),
-            (Calls::Alu(calls), Side::Rust) => {
-                sum(calls, |kind, lhs, rhs| block::computed(kind, lhs, rhs))
-            }
-            (Calls::Alu(calls), Side::Ours) => sum(calls, |kind, lhs, rhs| {
+struct Alu(Vec<(AluKind, u64, u64)>);
+
+impl Calls for Alu {
+    fn len(&self) -> usize {
+        self.0.len()
+    }
+    fn pass(&mut self, side: Side) -> u64 {
+        match side {
+            Side::Rust => sum(&self.0, block::computed),
+            _ => sum(&self.0, |kind, lhs, rhs| {
                 let answer = uv_alu(kind as u64, lhs, rhs);
                 answer.number + answer.value
             }),
@@ -123,22 +153,40 @@ fn groups() -> Vec<(&'static str, Vec<AluKind>)> {
 /// The rows of the table.
 pub fn rows(image: Option<&str>) -> Result<Vec<Work>, String> {
     let mut random = Random::new(1, 5);
-    let (words, halfwords) = match image {
+    let target = |most| {
+        Some(Target {
+            over: Side::Rust,
+            most,
+        })
+    };
+    let (words, halfwords, image) = match image {
         Some(name) => {
             let bytes = std::fs::read(name).map_err(|error| format!("{name}: {error}"))?;
-            made::split(&bytes)
+            let (words, halfwords) = made::split(&bytes);
+            (words, halfwords, bytes)
         }
-        None => made::made(CALLS, &mut random),
+        None => {
+            let (words, halfwords) = made::made(CALLS, &mut random);
+            (words, halfwords, made::image(1 << 18, &mut random))
+        }
+    };
+    let row = |name: &str, target, calls| Work {
+        name: name.into(),
+        sides: BOTH,
+        target,
+        calls,
     };
     let mut rows = vec![
-        Work {
-            name: "decode a word",
-            calls: Calls::Words(words),
-        },
-        Work {
-            name: "decode a halfword",
-            calls: Calls::Halfwords(halfwords),
-        },
+        row(
+            "decode a word",
+            target(0.95),
+            Box::new(Words(words)) as Box<dyn Calls>,
+        ),
+        row(
+            "decode a halfword",
+            target(0.95),
+            Box::new(Halfwords(halfwords)),
+        ),
     ];
     for (name, kinds) in groups() {
         let calls = (0..CALLS)
@@ -147,10 +195,8 @@ pub fn rows(image: Option<&str>) -> Result<Vec<Work>, String> {
                 (kind, random.wide(), random.wide())
             })
             .collect();
-        rows.push(Work {
-            name,
-            calls: Calls::Alu(calls),
-        });
+        rows.push(row(name, target(1.2), Box::new(Alu(calls))));
     }
+    rows.extend(cache::rows(&image));
     Ok(rows)
 }

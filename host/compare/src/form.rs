@@ -32,7 +32,7 @@ fn expected(bus: &mut Plain, address: u64, lent: &mut [u8]) -> u64 {
         base: bus.base,
         pages: len / PAGE,
     };
-    if len % PAGE != 0 || !shape.in_bounds() {
+    if !len.is_multiple_of(PAGE) || !shape.in_bounds() {
         return 2;
     }
     if lent.len() != RECORD {

@@ -1,0 +1,365 @@
+//! Forming and the cache: rows whose calls change something, so that each pass is made ready first.
+use crate::work::{Calls, Side, Target, Work};
+use oracle::block::{self, Block, BlockCache};
+use oracle::system_bus::FlatMemory;
+use std::hint::black_box;
+use unvriscol::door;
+
+const PAGE: usize = 4096;
+const RECORD: usize = 1040;
+
+/// An image in the original's own memory and in plain bytes, from address 0 on, with its blocks in the order in which a hart would meet them.
+struct Image {
+    bus: FlatMemory,
+    bytes: Vec<u8>,
+    starts: Vec<u64>,
+    ops: usize,
+}
+
+impl Image {
+    /// The image is repeated up to a power of two, of at least 64 pages: the original's memory has no other lengths.
+    fn new(image: &[u8]) -> Self {
+        let len = image.len().next_power_of_two().max(64 * PAGE);
+        let bytes: Vec<u8> = image.iter().copied().cycle().take(len).collect();
+        let mut bus = FlatMemory::new(len);
+        bus.load_at(0, &bytes);
+        let (mut starts, mut ops, mut at) = (Vec::new(), 0, 0);
+        while at + 1 < len as u64 {
+            match block::decode_block(&mut bus, at) {
+                Some(block) => {
+                    starts.push(at);
+                    ops += block.ops.len();
+                    at += u64::from(block.byte_len);
+                }
+                None => at += 2,
+            }
+        }
+        Self {
+            bus,
+            bytes,
+            starts,
+            ops,
+        }
+    }
+
+    fn pages(&self) -> u64 {
+        (self.bytes.len() / PAGE) as u64
+    }
+
+    fn form(&self, address: u64, record: &mut [u8; RECORD]) -> u64 {
+        // SAFETY: each pointer and length are those of one slice or array, lent for the call.
+        unsafe {
+            door::uv_form(
+                self.bytes.as_ptr(),
+                self.bytes.len(),
+                0,
+                address,
+                record.as_mut_ptr(),
+                RECORD,
+            )
+        }
+    }
+}
+
+/// Forming, per op.
+struct Form(Image);
+
+impl Calls for Form {
+    fn len(&self) -> usize {
+        self.0.ops
+    }
+
+    fn pass(&mut self, side: Side) -> u64 {
+        let mut formed = 0;
+        let mut record = [0; RECORD];
+        for at in 0..self.0.starts.len() {
+            let address = self.0.starts[at];
+            formed += match side {
+                Side::Rust => {
+                    u64::from(black_box(block::decode_block(&mut self.0.bus, address)).is_some())
+                }
+                _ => u64::from(self.0.form(address, black_box(&mut record)) == 0),
+            };
+        }
+        formed
+    }
+}
+
+/// What is done to a cache in a pass.
+#[derive(Clone, Copy, PartialEq)]
+enum Deed {
+    Insert,
+    Hit,
+    Miss,
+    NoticeUnmarked,
+    NoticeMarked,
+    Flush,
+    Make,
+}
+
+/// Blocks of an image with a cache on each side: the original's, and ours with 2^e slots.
+struct Cache {
+    deed: Deed,
+    e: u64,
+    pages: u64,
+    /// Where the calls are made, and the records of the blocks there.
+    addresses: Vec<u64>,
+    records: Vec<[u8; RECORD]>,
+    image: Image,
+    rust: BlockCache,
+    /// Formed anew for each pass, since an insertion takes a block.
+    blocks: Vec<Block>,
+    store: Vec<u8>,
+}
+
+impl Cache {
+    /// Few enough that their records stay near.
+    const BLOCKS: usize = 256;
+
+    fn new(deed: Deed, e: u64, image: &[u8]) -> Self {
+        let image = Image::new(image);
+        let mut slots = vec![false; 1 << e];
+        let mut pages = vec![false; image.pages() as usize];
+        let addresses: Vec<u64> = image
+            .starts
+            .iter()
+            .copied()
+            .filter(|&start| match deed {
+                // One block to a page.
+                Deed::NoticeMarked => !std::mem::replace(&mut pages[start as usize / PAGE], true),
+                // One block to a slot; the image's first half, so that what is missed has the same slot in the second.
+                _ => {
+                    start < image.bytes.len() as u64 / 2
+                        && !std::mem::replace(&mut slots[start as usize / 2 % (1 << e)], true)
+                }
+            })
+            .take(Self::BLOCKS)
+            .collect();
+        let records = addresses
+            .iter()
+            .map(|&address| {
+                let mut record = [0; RECORD];
+                image.form(address, &mut record);
+                record
+            })
+            .collect();
+        let pages = image.pages();
+        let store = vec![0; unvriscol::store_len(e, pages).expect("within the bounds")];
+        let mut cache = Self {
+            deed,
+            e,
+            pages,
+            addresses,
+            records,
+            image,
+            rust: BlockCache::new(),
+            blocks: Vec::new(),
+            store,
+        };
+        cache.make();
+        cache
+    }
+
+    fn make(&mut self) -> u64 {
+        // SAFETY: pointer and length of one buffer, lent for the call; so below.
+        unsafe {
+            door::uv_make(
+                self.store.as_mut_ptr(),
+                self.store.len(),
+                self.e,
+                0,
+                self.pages,
+            )
+        }
+    }
+
+    fn insert_all(&mut self) -> u64 {
+        let mut sum = 0;
+        for (address, record) in self.addresses.iter().zip(&self.records) {
+            sum += unsafe {
+                door::uv_insert(
+                    self.store.as_mut_ptr(),
+                    self.store.len(),
+                    *address,
+                    record.as_ptr(),
+                    RECORD,
+                )
+            };
+        }
+        sum
+    }
+
+    fn rust_insert_all(&mut self) -> u64 {
+        let mut sum = 0;
+        for (&address, block) in self.addresses.iter().zip(self.blocks.drain(..)) {
+            sum += u64::from(rust_insert(&mut self.rust, address, block).byte_len);
+        }
+        sum
+    }
+
+    fn form_all(&mut self) {
+        for &address in &self.addresses {
+            self.blocks
+                .extend(block::decode_block(&mut self.image.bus, address));
+        }
+    }
+
+    /// The addresses of the deed.
+    fn asked(&self) -> impl Iterator<Item = u64> + use<'_> {
+        let aside = match self.deed {
+            Deed::Miss => self.image.bytes.len() as u64 / 2,
+            _ => 0,
+        };
+        self.addresses.iter().map(move |address| address + aside)
+    }
+}
+
+// The original inlines these; ours are C functions.
+#[inline(never)]
+fn rust_insert(cache: &mut BlockCache, address: u64, block: Block) -> std::sync::Arc<Block> {
+    cache.insert(address, block)
+}
+
+#[inline(never)]
+fn rust_lookup(cache: &BlockCache, address: u64) -> Option<std::sync::Arc<Block>> {
+    cache.lookup(address)
+}
+
+#[inline(never)]
+fn rust_notice(cache: &mut BlockCache, address: u64) {
+    cache.notify_store(address);
+}
+
+impl Calls for Cache {
+    fn len(&self) -> usize {
+        match self.deed {
+            Deed::Flush | Deed::Make => 1,
+            _ => self.addresses.len(),
+        }
+    }
+
+    fn prepare(&mut self, side: Side) {
+        match (self.deed, side) {
+            (Deed::Insert, Side::Rust) => self.form_all(),
+            (Deed::Hit | Deed::Miss | Deed::NoticeMarked | Deed::Flush, Side::Rust) => {
+                self.form_all();
+                self.rust_insert_all();
+            }
+            (Deed::Hit | Deed::Miss | Deed::NoticeMarked | Deed::Flush, _) => {
+                self.insert_all();
+            }
+            _ => {}
+        }
+    }
+
+    fn pass(&mut self, side: Side) -> u64 {
+        match (self.deed, side) {
+            (Deed::Insert, Side::Rust) => self.rust_insert_all(),
+            (Deed::Insert, _) => self.insert_all(),
+            (Deed::Hit | Deed::Miss, Side::Rust) => self
+                .asked()
+                .map(|address| u64::from(black_box(rust_lookup(&self.rust, address)).is_some()))
+                .sum(),
+            (Deed::Hit | Deed::Miss, _) => self
+                .asked()
+                .map(|address| {
+                    let (at, len) = (self.store.as_ptr(), self.store.len());
+                    black_box(unsafe { door::uv_lookup(at, len, address) }).value
+                })
+                .sum(),
+            (Deed::NoticeUnmarked | Deed::NoticeMarked, Side::Rust) => {
+                for &address in &self.addresses {
+                    rust_notice(&mut self.rust, address);
+                }
+                0
+            }
+            (Deed::NoticeUnmarked | Deed::NoticeMarked, Side::Ours) => {
+                let (at, len) = (self.store.as_mut_ptr(), self.store.len());
+                self.addresses
+                    .iter()
+                    .map(|&address| unsafe { door::uv_notice(at, len, address) }.value)
+                    .sum()
+            }
+            // One load per place at the places' stride.
+            (Deed::NoticeUnmarked | Deed::NoticeMarked, Side::Floor) => {
+                let front = self.store.len() - (RECORD << self.e);
+                (0..self.addresses.len())
+                    .map(|_| {
+                        black_box(&self.store[front..])
+                            .chunks_exact(RECORD)
+                            .map(|place| u64::from_le_bytes(*place.first_chunk().expect("eight")))
+                            .fold(0, u64::wrapping_add)
+                    })
+                    .fold(0, u64::wrapping_add)
+            }
+            (Deed::Flush, Side::Rust) => {
+                self.rust.flush_all();
+                0
+            }
+            (Deed::Flush, Side::Ours) => unsafe {
+                door::uv_flush(self.store.as_mut_ptr(), self.store.len())
+            },
+            (Deed::Make, Side::Rust) => {
+                self.rust = BlockCache::new();
+                0
+            }
+            (Deed::Make, Side::Ours) => self.make(),
+            (Deed::Flush | Deed::Make, Side::Floor) => {
+                black_box(&mut self.store[..]).fill(0);
+                // The next pass finds a store again.
+                0
+            }
+        }
+    }
+
+    fn tidy(&mut self, side: Side) {
+        if matches!((self.deed, side), (Deed::Flush | Deed::Make, Side::Floor)) {
+            self.make();
+        }
+    }
+}
+
+const RUST: &[Side] = &[Side::Rust, Side::Ours];
+const FLOOR: &[Side] = &[Side::Rust, Side::Floor, Side::Ours];
+
+/// The rows of forming, and of the cache at the original's slot count and a smaller one.
+pub fn rows(image: &[u8]) -> Vec<Work> {
+    let mut rows = vec![Work {
+        name: "form, per op".into(),
+        sides: RUST,
+        target: Some(Target {
+            over: Side::Rust,
+            most: 0.7,
+        }),
+        calls: Box::new(Form(Image::new(image))),
+    }];
+    let rust = |most| {
+        Some(Target {
+            over: Side::Rust,
+            most,
+        })
+    };
+    let floor = Some(Target {
+        over: Side::Floor,
+        most: 1.3,
+    });
+    for e in [14, 8] {
+        for (name, deed, sides, target) in [
+            ("insert a formed block", Deed::Insert, RUST, rust(1.0)),
+            ("lookup, a hit", Deed::Hit, RUST, rust(0.6)),
+            ("lookup, a miss", Deed::Miss, RUST, None),
+            ("notice, page unmarked", Deed::NoticeUnmarked, RUST, None),
+            ("notice, page marked", Deed::NoticeMarked, FLOOR, floor),
+            ("flush", Deed::Flush, FLOOR, floor),
+            ("make", Deed::Make, FLOOR, floor),
+        ] {
+            rows.push(Work {
+                name: format!("{name}, e = {e}"),
+                sides,
+                target,
+                calls: Box::new(Cache::new(deed, e, image)),
+            });
+        }
+    }
+    rows
+}
