@@ -106,7 +106,7 @@ fn all_zero(s: &[u8]) -> bool
     seen == 0
 }
 
-fn jumps(op: u8) -> bool
+pub fn jumps(op: u8) -> bool
     ensures { λ r. ⌜ r ≡ jumps op ⌝ }
 {
     if op == 7 {

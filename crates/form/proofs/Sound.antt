@@ -22,9 +22,7 @@ use Rattle.block.specs.WellFormed.{allZero, jumps, opsWellFormed, wellFormed}
 use Rattle.block.proofs.Places.{Geometry, geometry, held}
 use Rattle.block.proofs.Records.{walk-record, record-well}
 use Rattle.block.proofs.Zeros.{zero-all}
-use Rattle.form.specs.Forming.{Reading, rust, endsBlock, fetched, andThen, opsFrom, formed}
-use Rattle.form.specs.declared.Fetched.{Fetched}
-use Rattle.form.specs.declared.Fetched.the-variants.{Kept, Stop}
+use Rattle.form.specs.Forming.{Reading, rust, endsBlock, fetched, andThen, opsFrom, formed, Fetched, Kept, Stop}
 use Rattle.form.proofs.Kept.{fetched-by, Within, within}
 
 -- a reading that gives proper ops, and never a Fallback

@@ -17,8 +17,6 @@ use Rattle.halfword.specs.Halfword.{rustHalf}
 use Rattle.block.specs.Memory.{restOfPage}
 use Rattle.block.specs.Record.{Insn, insn}
 use Rattle.block.specs.WellFormed.{jumps}
-use Rattle.form.specs.declared.Fetched.{Fetched}
-use Rattle.form.specs.declared.Fetched.the-variants.{Kept, Stop}
 
 -- a reading is two decoders
 pub record Reading : Type 0 where
@@ -36,6 +34,11 @@ stopsBlock raw = (eqb (opcode raw) 0x73 && eqb (funct3 raw) 0) || (eqb (opcode r
 abbrev pub endsBlock : Op → Bool
 endsBlock op = jumps (opFields op .op)
 
+-- what stands at an offset of a page: an op and its length, or what no block goes past
+pub data Fetched : Type 0 where
+  Kept : Op → ℕ → Fetched
+  Stop : Fetched
+
 abbrev pub halfFetched : Decoded → Fetched
 halfFetched (Some op) = Kept op 2
 halfFetched None = Stop
@@ -44,7 +47,7 @@ abbrev pub wordFetched : ℕ → Decoded → Fetched
 wordFetched raw (Some op) = Kept op 4
 wordFetched raw None = cond (stopsBlock raw) Stop (Kept (Fallback raw) 4)
 
--- what stands at an offset of s, the bytes up to the end of the page
+-- at an offset of s, the bytes up to the end of the page
 unfoldable pub fetched : Reading → List ℕ → ℕ → Fetched
 fetched reading s at =
     cond (ltb (length s) (at + 2)) Stop

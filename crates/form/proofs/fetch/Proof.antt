@@ -11,16 +11,17 @@ use Rattle.bits.specs.Bytes.{halfwordAt}
 use Rattle.word.specs.Word.{rustWord}
 use Rattle.halfword.specs.Halfword.{rustHalf}
 use Rattle.form.specs.Forming.{halfFetched, wordFetched, fetched}
+use Rattle.form.specs.Written.{taken}
 use borrow.Author.Needs.{needs}
 use Rattle.form.proofs.fetch.Statement.{statement}
 use Rattle.form.proofs.fetch.Tie as tie
 
 -- where the halfword is read
 abbrev S : tie.After-halfword-at → List ℕ
-S c = c .before .before .before .args .s .now
+S c = c .before .before .before .before .args .s .now
 
 abbrev At : tie.After-halfword-at → ℕ
-At c = c .before .before .before .args .at
+At c = c .before .before .before .before .args .at
 
 has-two : (c : tie.After-halfword-at) → ltb (length (S c)) (At c + 2) ≡ false
 has-two c = le-ltb (length (S c)) (At c + 2) (c .before .if1 .left)
@@ -37,20 +38,26 @@ fetch-spec =
     tie.close
     (tie.spec
     (λ c. search needs)
-    (λ c. let a = c .before .before .args in rw (lt-ltb (length (a .s .now)) (a .at + 2) (c .if1 .taken)))
+    (λ c. let a = c .before .before .before .args in rw (lt-ltb (length (a .s .now)) (a .at + 2) (c .if1 .taken)))
     (λ c κs. search needs) (λ c. search needs)
     (λ c.
     let low = c .before .before in
     let cut : ltb (length (S low)) (At low + 4) ≡ true = lt-ltb (length (S low)) (At low + 4) (c .if3 .taken) in
     rw (has-two low, is-word (c .before), cut))
-    (λ c κs. search needs) (λ c κs. search needs)
+    (λ c κs. search needs) (λ c. search needs) (λ c κs. search needs) (λ c. search needs)
     (λ c.
-    let wide = c .before .before in
+    let called = c .before .before in
+    let wide = called .before .before .before in
     let low = wide .before .before in
+    let a = low .before .before .before .before .args in
     let whole : ltb (length (S low)) (At low + 4) ≡ false = le-ltb (length (S low)) (At low + 4) (wide .if3 .left) in
     rw (has-two low, is-word (wide .before), whole)
-    (c .fetch-word .ensures ∙ ap (λ (w : ℕ). wordFetched w (rustWord w)) (c .before .word-at .ensures)))
-    (λ c κs. search needs)
+    (called .fetch-word .ensures ∙ ap (λ (w : ℕ). taken (a .place) (a .at) (wordFetched w (rustWord w)) (a .lent .now)) (called .before .before .word-at .ensures)))
+    (λ c. search needs) (λ c κs. search needs) (λ c. search needs)
     (λ c.
-    let low = c .before .before in
-    rw (has-two low, is-half (c .before)) (c .fetch-halfword .ensures ∙ ap (λ (h : ℕ). halfFetched (rustHalf h)) (low .halfword-at .ensures))))
+    let called = c .before .before in
+    let half = called .before .before in
+    let low = half .before in
+    let a = low .before .before .before .before .args in
+    rw (has-two low, is-half half)
+    (called .fetch-halfword .ensures ∙ ap (λ (h : ℕ). taken (a .place) (a .at) (halfFetched (rustHalf h)) (a .lent .now)) (low .halfword-at .ensures))))
