@@ -149,6 +149,20 @@ part-behind s at p k n h b =
     ∙ drop-drop (k - (at + length p)) (at + length p) s
     ∙ ap (λ (z : ℕ). drop z s) (add-sub-of-le b))
 
+-- one element before what was replaced, and one behind it
+module _ (s : List ℕ) (at : ℕ) (p : List ℕ) (f : at + length p ≤ length s) where
+  by-part : (k : ℕ) → part (patch s at p) k 1 ≡ part s k 1 → getD (patch s at p) k 0 ≡ getD s k 0
+  by-part k e = ap (λ (n : ℕ). getD (patch s at p) n 0) zero-end ∙ sym (getD-part (patch s at p) k 1 0 (omega arith)) ∙ ap (λ (l : List ℕ). getD l 0 0) e ∙ getD-part s k 1 0 (omega arith) ∙ ap (λ (n : ℕ). getD s n 0) (sym zero-end)
+    where
+      zero-end : k ≡ k + 0
+      zero-end = omega arith
+
+  pub getD-before : (k : ℕ) → k < at → getD (patch s at p) k 0 ≡ getD s k 0
+  getD-before k h = by-part k (part-before s at p k 1 f (omega arith))
+
+  pub getD-behind : (k : ℕ) → at + length p ≤ k → getD (patch s at p) k 0 ≡ getD s k 0
+  getD-behind k h = by-part k (part-behind s at p k 1 f h)
+
 -- a doubleword is that of its eight bytes
 pub doubleword-part : (s : List ℕ) (at n : ℕ) → 8 ≤ n → doublewordAt (part s at n) 0 ≡ doublewordAt s at
 doubleword-part s at n h =
@@ -166,3 +180,14 @@ doubleword-same s at x h b =
 pub doubleword-before : (s : List ℕ) (at : ℕ) (p : List ℕ) (k : ℕ) → at + length p ≤ length s → k + 8 ≤ at → doublewordAt (patch s at p) k ≡ doublewordAt s k
 doubleword-before s at p k h b =
     sym (doubleword-part (patch s at p) k 8 (omega arith)) ∙ ap (λ (l : List ℕ). doublewordAt l 0) (part-before s at p k 8 h b) ∙ doubleword-part s k 8 (omega arith)
+
+-- a part that is put back with its own start replaced
+pub patch-part : (s : List ℕ) (at n : ℕ) (p : List ℕ) → at + n ≤ length s → length p ≤ n → patch s at (patch (part s at n) 0 p) ≡ patch s at p
+unfolding patch part
+patch-part s at n p h b =
+    let there = drop at s in
+    let l : length (take n there) ≡ n = length-take-le n there (simp length-drop (omega arith)) in
+    let none : 0 + length p ≡ length p = omega arith in
+    let long : length (p ++ drop (length p) (take n there)) ≡ n = simp (length-append, length-drop) (omega arith) in
+    let rest : drop (length p) (take n there) ++ drop n there ≡ drop (length p) there = sym (drop-append-le (length p) (take n there) (drop n there) (omega arith)) ∙ ap (drop (length p)) (take-append-drop n there) in
+    rw (none, long) (ap (λ (z : List ℕ). take at s ++ z) (append-assoc p (drop (length p) (take n there)) (drop (at + n) s) ∙ ap (λ (z : List ℕ). p ++ z) (ap (λ (z : List ℕ). drop (length p) (take n there) ++ z) (sym (drop-drop n at s)) ∙ rest ∙ drop-drop (length p) at s)))

@@ -10,15 +10,13 @@ use lib.ListN.{length}
 use Rattle.store.specs.Layout.{opened, Fitting, holds, pageOf, slotOf, generationOf, bumped}
 use Rattle.store.specs.Places.{pageBit, withBit, emptied}
 use Rattle.store.specs.declared.Geometry.{Geometry}
-use Rattle.store.specs.declared.Which.{Which}
-use Rattle.store.specs.declared.Which.the-variants.{OnPage}
 use Rattle.store.proofs.Known.{page-lt, slot-lt}
 use Rattle.store.proofs.Places.{length-emptied}
 use Rattle.store.proofs.View.{placeIn, length-with, opened-with, generation-with, bits-with, place-with, length-bumped, opened-bumped, generation-bumped, bits-bumped, place-bumped, length-put, opened-put, generation-put, bits-put, place-put, fitting-each, opened-each, generation-each, bits-each, place-each}
 use Rattle.cache.specs.Calls.{insertedIn, evicted}
 
 -- emptying keeps a place's length
-keeps : (g : Geometry) (s : List ℕ) → Fitting g s → (w : Which) (p : List ℕ) → length p ≡ g .size → length (emptied w p) ≡ g .size
+keeps : (g : Geometry) (s : List ℕ) → Fitting g s → (w : ℕ) (p : List ℕ) → length p ≡ g .size → length (emptied w p) ≡ g .size
 keeps g s f w p l = length-emptied w p (omega (arith, f .bounds .room)) ∙ l
 
 module _ (g : Geometry) (s : List ℕ) (f : Fitting g s) (a : ℕ) (h : holds g a ≡ true) where
@@ -33,8 +31,8 @@ module _ (g : Geometry) (s : List ℕ) (f : Fitting g s) (a : ℕ) (h : holds g 
   unfolding cleared
   cleared-fits = record { bounds = f .bounds; size = length-with g s f (pageOf g a) false in-memory ∙ f .size }
 
-  here : Which
-  here = OnPage (a / 4096)
+  here : ℕ
+  here = a / 4096
 
   pub fitting-evicted : Fitting g (evicted g s a)
   unfolding evicted cleared here
@@ -52,7 +50,7 @@ module _ (g : Geometry) (s : List ℕ) (f : Fitting g s) (a : ℕ) (h : holds g 
   unfolding evicted cleared here
   bits-evicted q b = bits-each g cleared cleared-fits (emptied here) (keeps g s f here) q b ∙ bits-with g s f (pageOf g a) false in-memory q
 
-  pub place-evicted : (i : ℕ) → i < 2 ^ g .e → placeIn g (evicted g s a) i ≡ emptied (OnPage (a / 4096)) (placeIn g s i)
+  pub place-evicted : (i : ℕ) → i < 2 ^ g .e → placeIn g (evicted g s a) i ≡ emptied (a / 4096) (placeIn g s i)
   unfolding evicted cleared here
   place-evicted i b = place-each g cleared cleared-fits (emptied here) (keeps g s f here) i b ∙ ap (emptied here) (place-with g s f (pageOf g a) false in-memory i)
 

@@ -13,7 +13,6 @@ use Rattle.store.specs.Places.{pageBit, withBit, emptied, eachPlace, blank}
 use Rattle.store.specs.declared.Geometry.{Geometry}
 use Rattle.store.specs.declared.Opened.{Opened}
 use Rattle.store.specs.declared.Opened.the-variants.{Sound, NotAStore}
-use Rattle.store.specs.declared.Which.the-variants.{OnPage}
 use Rattle.cache.specs.declared.Refusal.the-variants.{NoStore, BadGeometry, OutsideMemory, IllFormed, WrongRecordBuffer, NothingFound}
 use Rattle.cache.specs.declared.Judged.{Judged}
 use Rattle.cache.specs.declared.Judged.the-variants.{Accepted, Rejected}
@@ -88,7 +87,7 @@ abbrev pub watched : Geometry → List ℕ → ℕ → Bool
 watched g s a = holds g a && pageBit s (pageOf g a)
 
 unfoldable pub evicted : Geometry → List ℕ → ℕ → List ℕ
-evicted g s a = eachPlace (emptied (OnPage (a / 4096))) (front (g .pages)) (g .size) (2 ^ g .e) (withBit s (pageOf g a) false)
+evicted g s a = eachPlace (emptied (a / 4096)) (front (g .pages)) (g .size) (2 ^ g .e) (withBit s (pageOf g a) false)
 
 abbrev pub noticedIn : Geometry → List ℕ → ℕ → Report × List ℕ
 noticedIn g s a = cond (watched g s a) (record { examined = 2 ^ g .e }, evicted g s a) (record { examined = 0 }, s)

@@ -11,7 +11,6 @@ use block::BlockRecord;
 use block::PAGE;
 use store::Geometry;
 use store::Opened;
-use store::Which;
 
 // Why a call is refused. No refusal changes a lent byte.
 pub enum Refusal {
@@ -288,13 +287,7 @@ fn evict(store: &mut [u8], g: Geometry, address: u64)
     ensures { λ _. ⌜ now (store .exit) ≡ evicted g (now (store .entry)) address ⌝ }
 {
     store::set_bit(store, g.page(address), false);
-    store::empty_places(
-        store,
-        g.front(),
-        g.size,
-        g.slots(),
-        Which::OnPage(address / PAGE),
-    );
+    store::empty_places(store, g.front(), g.size, g.slots(), address / PAGE);
 }
 
 // A notice in a store whose header was checked.

@@ -11,7 +11,7 @@ use lib.Dec.{eqb}
 use lib.ListN.{length, getD}
 use borrow.Author.Tests.{eqb-true, eqb-false}
 use Rattle.bits.specs.Bytes.{le, patch}
-use Rattle.bits.proofs.Bytes.{length-le, length-patch}
+use Rattle.bits.proofs.Bytes.{length-le, length-patch, getD-before, getD-behind}
 use Rattle.bits.proofs.Every.{decide}
 use Rattle.block.specs.Memory.{page}
 use Rattle.form.proofs.Page.{by-bytes}
@@ -20,7 +20,6 @@ use Rattle.store.specs.declared.Geometry.{Geometry}
 use Rattle.store.specs.declared.Opened.{Opened}
 use Rattle.store.specs.declared.Opened.the-variants.{Sound}
 use Rattle.store.proofs.Known.{holds-are}
-use Rattle.store.proofs.View.{byte-before, byte-behind}
 use Rattle.cache.specs.Calls.{makeJudged, mayHold, insertJudged}
 use Rattle.cache.specs.declared.Judged.{Judged}
 use Rattle.cache.specs.declared.Judged.the-variants.{Accepted, Rejected}
@@ -71,8 +70,8 @@ module _ (s m : List ℕ) (at n v : ℕ) (g : Geometry) (t : Granted s (length m
       in-memory = holds-are g a (may-holds g a able)
 
       go : (i : ℕ) → i / 4096 ≡ (a - g .base) / 4096 → Dec (i < at - g .base) → getD (patch m (at - g .base) (le n v)) i 0 ≡ getD m i 0
-      go i e (yes c) = byte-before m (at - g .base) (le n v) room i c
-      go i e (no c) = byte-behind m (at - g .base) (le n v) room i (rw (length-le n v) (behind (g .base) at n a i (b .aligned) (t .low) (in-memory .0) (t .some) (t .few) first last e (omega arith)))
+      go i e (yes c) = getD-before m (at - g .base) (le n v) room i c
+      go i e (no c) = getD-behind m (at - g .base) (le n v) room i (rw (length-le n v) (behind (g .base) at n a i (b .aligned) (t .low) (in-memory .0) (t .some) (t .few) first last e (omega arith)))
 
 -- what a past shows is what forms now
 abbrev Fresh : Former → Past → List ℕ → Type 0

@@ -16,7 +16,6 @@ use Rattle.store.specs.Layout.{header, inBounds, geometry, opened, holds, slotO
 use Rattle.store.specs.Places.{pageBit, emptyPlace, emptied, blank}
 use Rattle.store.specs.declared.Geometry.{Geometry}
 use Rattle.store.specs.declared.Opened.the-variants.{Sound}
-use Rattle.store.specs.declared.Which.the-variants.{OnPage}
 use Rattle.store.proofs.Known.{holds-are, page-lt}
 use Rattle.store.proofs.Places.{length-empty}
 use Rattle.store.proofs.View.{placeIn, opened-flushed, generation-flushed, bits-flushed, place-flushed, opened-made, generation-made, bits-made, place-made}
@@ -68,7 +67,7 @@ same-test g a q b h =
     (λ n. ne-eqb ((a - g .base) / 4096) q n ∙ sym (ne-eqb (pageOf a) (pageOf (g .base) + q) (λ e. n (omega (arith, page-shift g a b h)))))
 
 -- a scan of a place's bytes is a scan of the place
-scanned : (g : Geometry) (p : ℕ) (k : Place) → Bounded g → Was (slotOf g) pageOf (Inner g) k → emptied (OnPage p) (bytesOf (g .size) k) ≡ bytesOf (g .size) (swept (slotOf g) pageOf p k)
+scanned : (g : Geometry) (p : ℕ) (k : Place) → Bounded g → Was (slotOf g) pageOf (Inner g) k → emptied p (bytesOf (g .size) k) ≡ bytesOf (g .size) (swept (slotOf g) pageOf p k)
 unfolding emptied
 scanned g p empty b w = go (eqb (doublewordAt (emptyPlace (g .size)) 0 / 4096) p)
   where
@@ -149,7 +148,7 @@ module _ (g : Geometry) (h : List Event) (s : List ℕ) (y : Simulates g h s) wh
     swept-places m o = record {
       sound = opened-evicted g s fits a o ∙ y .sound;
       age = generation-evicted g s fits a o ∙ y .age;
-      place = λ i c. place-evicted g s fits a o i c ∙ ap (emptied (OnPage (a / 4096))) (y .place i c) ∙ rw m (scanned g (pageOf a) (places (slotOf g) pageOf h i) (fits .bounds) (was (slotOf g) pageOf (Inner g) h (y .inner) i));
+      place = λ i c. place-evicted g s fits a o i c ∙ ap (emptied (a / 4096)) (y .place i c) ∙ rw m (scanned g (pageOf a) (places (slotOf g) pageOf h i) (fits .bounds) (was (slotOf g) pageOf (Inner g) h (y .inner) i));
       bits = λ q c. bits-evicted g s fits a o q c ∙ rw (same-test g a q (fits .bounds) o) (bit (eqb (pageOf a) (pageOf (g .base) + q)) _ _ (y .bits q c));
       inner = and-then tt (y .inner);
     }

@@ -2,19 +2,17 @@
 -- Assumes nothing.
 use mathlib.Core.Path.{_≡_, refl, sym, ap, _∙_}
 use mathlib.Core.Bool.{Bool, true, false, cond}
-use mathlib.Core.List.{List, _++_, append-assoc, append-nil}
-use Prim.Native.Nat.{ℕ, zero, suc, _+_, _-_, _*_, _^_, _≤_}
+use mathlib.Core.List.{List, _++_, append-assoc}
+use Prim.Native.Nat.{ℕ, zero, suc, _+_, _-_, _*_, _/_, _≤_}
 use native.Mathlib.Omega.{arith}
-use native.Mathlib.Nat.{mul-suc, mul-zero, add-zero}
-use lib.ListN.{length, take, drop, replicate, length-append, length-take, length-drop, length-replicate, take-append-drop, drop-of-length-le, replicate-append-replicate}
-use lib.Seq.{drop-drop, take-at}
+use native.Mathlib.Nat.{mul-suc, mul-zero}
+use lib.Dec.{eqb}
+use lib.ListN.{length, drop, replicate, length-append, length-replicate, replicate-append-replicate}
 use Rattle.bits.specs.Bytes.{le, part, patch, doublewordAt}
-use Rattle.bits.proofs.Bytes.{length-le, length-patch, length-part, le-zero, le-cons, patch-behind, patch-append}
-use Rattle.store.specs.Layout.{signature, header, front, Fitting}
-use Rattle.store.specs.Places.{emptyPlace, concerns, emptied, eachPlace, copies, blank}
+use Rattle.bits.proofs.Bytes.{length-le, length-patch, length-part, le-zero, le-cons, patch-append}
+use Rattle.store.specs.Layout.{signature, header, front}
+use Rattle.store.specs.Places.{emptyPlace, emptied, vacated, eachPlace, copies}
 use Rattle.store.specs.declared.Geometry.{Geometry}
-use Rattle.store.specs.declared.Which.{Which}
-use Rattle.store.specs.declared.Which.the-variants.{EveryPlace}
 
 -- zeros with eight bytes of 255 over them
 pub empty-made : (z : ℕ) → 8 ≤ z → patch (replicate z 0) 0 (le 8 0xFFFF_FFFF_FFFF_FFFF) ≡ emptyPlace z
@@ -28,13 +26,17 @@ pub length-empty : (z : ℕ) → 8 ≤ z → length (emptyPlace z) ≡ z
 unfolding emptyPlace
 length-empty z h = simp (length-append, length-replicate) (omega arith)
 
-pub length-emptied : (w : Which) (p : List ℕ) → 8 ≤ length p → length (emptied w p) ≡ length p
+pub length-emptied : (w : ℕ) (p : List ℕ) → 8 ≤ length p → length (emptied w p) ≡ length p
 unfolding emptied
-length-emptied w p h = go (concerns w (doublewordAt p 0))
+length-emptied w p h = go (eqb (doublewordAt p 0 / 4096) w)
   where
     go : (b : Bool) → length (cond b (emptyPlace (length p)) p) ≡ length p
     go true = length-empty (length p) h
     go false = refl
+
+pub length-vacated : (p : List ℕ) → 8 ≤ length p → length (vacated p) ≡ length p
+unfolding vacated
+length-vacated p h = length-patch p 0 (le 8 0xFFFF_FFFF_FFFF_FFFF) (rw length-le h)
 
 -- a walk with a function that keeps a place's length
 module _ (f : List ℕ → List ℕ) (first z : ℕ) (keeps : (p : List ℕ) → length p ≡ z → length (f p) ≡ z) where
@@ -48,75 +50,10 @@ module _ (f : List ℕ → List ℕ) (first z : ℕ) (keeps : (p : List ℕ) →
       let k : length (f p) ≡ z = keeps p (length-part (eachPlace f first z n s) (first + z * n) z (omega arith)) in
       length-patch (eachPlace f first z n s) (first + z * n) (f p) (omega arith) ∙ l
 
-copies-snoc : (n : ℕ) (p : List ℕ) → copies n p ++ p ≡ p ++ copies n p
-unfolding copies
-copies-snoc zero p = sym (append-nil p)
-copies-snoc (suc n) p = append-assoc p (copies n p) p ∙ ap (λ (l : List ℕ). p ++ l) (copies-snoc n p)
-
 pub length-copies : (n : ℕ) (p : List ℕ) (z : ℕ) → length p ≡ z → length (copies n p) ≡ z * n
 unfolding copies
 length-copies zero p z l = sym (mul-zero z)
 length-copies (suc n) p z l = simp length-append (omega (arith, l, length-copies n p z l, mul-suc z n))
-
--- all places emptied, one after the other
-pub each-empty : (first z n : ℕ) (s : List ℕ) → 8 ≤ z → first + z * n ≤ length s → eachPlace (emptied EveryPlace) first z n s ≡ take first s ++ (copies n (emptyPlace z) ++ drop (first + z * n) s)
-unfolding eachPlace copies emptied
-each-empty first z zero s r h = rw (mul-zero, add-zero) (sym (take-append-drop first s))
-each-empty first z (suc n) s r h =
-    ap (λ (t : List ℕ). patch t at (emptied EveryPlace (part t at z))) (each-empty first z n s r (omega arith))
-    ∙ ap (patch so-far at) (ap emptyPlace (length-part so-far at z (omega (arith, whole))))
-    ∙ ap (λ (t : List ℕ). patch t at E) (sym (append-assoc (take first s) (copies n E) (drop at s)))
-    ∙ patch-behind (take first s ++ copies n E) (drop at s) at E before-at
-    ∙ rw (length-empty z r, drop-drop, append-assoc, ← append-assoc (copies n E) E, copies-snoc, e)
-  where
-    E : List ℕ
-    E = emptyPlace z
-
-    at : ℕ
-    at = first + z * n
-
-    e : at + z ≡ first + z * suc n
-    e = omega (arith, mul-suc z n)
-
-    so-far : List ℕ
-    so-far = take first s ++ (copies n E ++ drop at s)
-
-    before-at : length (take first s ++ copies n E) ≡ at
-    before-at = simp (length-append, length-take) (omega (arith, length-copies n E z (length-empty z r)))
-
-    whole : length so-far ≡ length s
-    whole = simp (length-append, length-take, length-drop) (omega (arith, length-copies n E z (length-empty z r)))
-
--- a zero bitmap, and then all places emptied
-pub wiped : (g : Geometry) (s : List ℕ) → Fitting g s → eachPlace (emptied EveryPlace) (front (g .pages)) (g .size) (2 ^ g .e) (patch s 32 (replicate (front (g .pages) - 32) 0)) ≡ take 32 s ++ blank g
-unfolding patch
-wiped g s f =
-    each-empty first (g .size) (2 ^ g .e) cleared (omega (arith, f .bounds)) (omega (arith, f .size, whole))
-    ∙ rw (opened-up, take-at (take 32 s ++ zs) (drop (32 + length zs) s) first ends, drop-of-length-le _ none-left, append-nil, append-assoc)
-  where
-    first : ℕ
-    first = front (g .pages)
-
-    zs : List ℕ
-    zs = replicate (first - 32) 0
-
-    cleared : List ℕ
-    cleared = patch s 32 zs
-
-    long : length zs ≡ first - 32
-    long = length-replicate {A = ℕ} (first - 32) 0
-
-    whole : length cleared ≡ length s
-    whole = length-patch s 32 zs (omega (arith, f .size, long))
-
-    opened-up : cleared ≡ (take 32 s ++ zs) ++ drop (32 + length zs) s
-    opened-up = sym (append-assoc (take 32 s) zs (drop (32 + length zs) s))
-
-    ends : length (take 32 s ++ zs) ≡ first
-    ends = simp (length-append, length-take) (omega (arith, f .size, long))
-
-    none-left : length ((take 32 s ++ zs) ++ drop (32 + length zs) s) ≤ first + g .size * 2 ^ g .e
-    none-left = rw (← opened-up) (omega (arith, f .size, whole))
 
 -- a header written as four numbers
 pub header-made : (g : Geometry) (s : List ℕ) → g .e ≤ 14 → 32 ≤ length s → patch (patch (patch (patch s 0 (le 8 (0x1_0043_4256 + g .e * 0x1_0000_0000_0000))) 8 (le 8 (g .base))) 16 (le 8 (g .pages))) 24 (le 8 1) ≡ patch s 0 (header g 1)

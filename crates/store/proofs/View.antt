@@ -3,47 +3,33 @@
 -- Assumes nothing.
 use mathlib.Core.Path.{_≡_, refl, sym, ap, ap₂, _∙_}
 use mathlib.Core.Bool.{Bool, true, false, cond, _&&_}
-use mathlib.Core.List.{List, [], _∷_, _++_, append-assoc}
+use mathlib.Core.List.{List, [], _∷_, _++_, append-assoc, append-nil}
 use Prim.Native.Nat.{ℕ, zero, suc, _+_, _-_, _*_, _/_, _%_, _^_, _≤_, _<_}
 use native.Mathlib.Omega.{arith}
 use native.Mathlib.Nat.{mod-lt, mod-eq-of-lt, div-lt-iff-lt-mul, div-add-mod', mul-comm, mul-suc, mul-zero, add-comm}
 use native.Mathlib.Numerals.{add-one}
 use native.Mathlib.Decide.{decLt}
 use lib.Dec.{eqb, leb, ltb, lit<}
-use lib.ListN.{length, getD, set, take, drop, replicate, length-append, length-replicate, getD-replicate, List·getD-append}
+use lib.ListN.{length, getD, set, take, drop, replicate, length-append, length-take, length-replicate, getD-replicate, drop-of-length-le, replicate-append-replicate, List·getD-append}
 use lib.Pow.{pow-pos}
 use lib.Seq.{ext-getD, set-split, getD-append-add, getD-take, take-at, drop-at, drop-drop, length-take-le}
 use borrow.Author.Tests.{eqb-true, eqb-false, ne-eqb, lt-ltb, le-ltb}
 use Rattle.bits.specs.Bits.{bit}
 use Rattle.bits.proofs.Bit.{bit-above}
 use Rattle.bits.specs.Bytes.{le, part, patch, doublewordAt}
-use Rattle.bits.proofs.Bytes.{length-le, length-patch, length-part, getD-part, part-same, part-before, part-behind, doubleword-le, doubleword-same, doubleword-before}
+use Rattle.bits.proofs.Bytes.{length-le, length-patch, length-part, getD-part, part-same, part-before, part-behind, getD-before, getD-behind, doubleword-le, doubleword-same, doubleword-before}
 use Rattle.store.specs.Layout.{signature, header, inBounds, front, storeSize, geometry, stated, isStore, opened, Bounded, Fitting, placeAt, generationOf, bumped}
-use Rattle.store.specs.Places.{pageBit, putBit, withBit, emptyPlace, eachPlace, copies, blank}
+use Rattle.store.specs.Places.{pageBit, putBit, withBit, emptyPlace, vacated, eachPlace, copies, blank}
 use Rattle.store.specs.declared.Geometry.{Geometry}
 use Rattle.store.specs.declared.Opened.{Opened}
 use Rattle.store.specs.declared.Opened.the-variants.{Sound, NotAStore}
 use Rattle.store.proofs.Bits.{bit-with}
 use Rattle.store.proofs.Known.{after, bounds-are, Header, opened-sound, place-fits, front-fits, bit-fits}
-use Rattle.store.proofs.Places.{length-empty, length-copies}
+use Rattle.store.proofs.Places.{empty-made, length-empty, length-vacated, length-copies}
 
 -- the bytes of slot i's place
 abbrev pub placeIn : Geometry → List ℕ → ℕ → List ℕ
 placeIn g s i = part s (placeAt g i) (g .size)
-
--- one byte of a list with a part replaced
-module _ (s : List ℕ) (at : ℕ) (p : List ℕ) (f : at + length p ≤ length s) where
-  pub byte-before : (k : ℕ) → k < at → getD (patch s at p) k 0 ≡ getD s k 0
-  byte-before k h = ap (λ (n : ℕ). getD (patch s at p) n 0) zero-end ∙ sym (getD-part (patch s at p) k 1 0 (omega arith)) ∙ ap (λ (l : List ℕ). getD l 0 0) (part-before s at p k 1 f (omega arith)) ∙ getD-part s k 1 0 (omega arith) ∙ ap (λ (n : ℕ). getD s n 0) (sym zero-end)
-    where
-      zero-end : k ≡ k + 0
-      zero-end = omega arith
-
-  pub byte-behind : (k : ℕ) → at + length p ≤ k → getD (patch s at p) k 0 ≡ getD s k 0
-  byte-behind k h = ap (λ (n : ℕ). getD (patch s at p) n 0) zero-end ∙ sym (getD-part (patch s at p) k 1 0 (omega arith)) ∙ ap (λ (l : List ℕ). getD l 0 0) (part-behind s at p k 1 f h) ∙ getD-part s k 1 0 (omega arith) ∙ ap (λ (n : ℕ). getD s n 0) (sym zero-end)
-    where
-      zero-end : k ≡ k + 0
-      zero-end = omega arith
 
 -- eight bytes that are the same say the same number
 same-word : (k : ℕ) (z s : List ℕ) → ((j : ℕ) → k ≤ j → j < k + 8 → getD z j 0 ≡ getD s j 0) → doublewordAt z k ≡ doublewordAt s k
@@ -73,18 +59,18 @@ opened-same s z l same =
 -- what a part replaced leaves, by where it lies
 module _ (s : List ℕ) (at : ℕ) (p : List ℕ) (f : at + length p ≤ length s) where
   pub opened-patch : 24 ≤ at → opened (patch s at p) ≡ opened s
-  opened-patch h = opened-same s (patch s at p) (length-patch s at p f) (λ k b. byte-before s at p f k (omega arith))
+  opened-patch h = opened-same s (patch s at p) (length-patch s at p f) (λ k b. getD-before s at p f k (omega arith))
 
   pub generation-patch : 32 ≤ at → generationOf (patch s at p) ≡ generationOf s
   generation-patch h = doubleword-before s at p 24 f (omega arith)
 
   pub bit-patch-low : (q : ℕ) → at + length p ≤ 32 → pageBit (patch s at p) q ≡ pageBit s q
   unfolding pageBit
-  bit-patch-low q h = rw (byte-behind s at p f (32 + q / 8) (omega arith))
+  bit-patch-low q h = rw (getD-behind s at p f (32 + q / 8) (omega arith))
 
   pub bit-patch-high : (q : ℕ) → 32 + q / 8 < at → pageBit (patch s at p) q ≡ pageBit s q
   unfolding pageBit
-  bit-patch-high q h = rw (byte-before s at p f (32 + q / 8) h)
+  bit-patch-high q h = rw (getD-before s at p f (32 + q / 8) h)
 
   pub place-patch-low : (g : Geometry) (i : ℕ) → at + length p ≤ front (g .pages) → placeIn g (patch s at p) i ≡ placeIn g s i
   place-patch-low g i h = part-behind s at p (placeAt g i) (g .size) f (omega arith)
@@ -165,6 +151,9 @@ module _ (g : Geometry) (s : List ℕ) (f : Fitting g s) where
     pub bits-put : (q : ℕ) → q < g .pages → pageBit (patch s (placeAt g j) rec) q ≡ pageBit s q
     bits-put q b = bit-patch-high s (placeAt g j) rec put-fits q (let w = bit-fits g s q f b in omega arith)
 
+    pub front-put : part (patch s (placeAt g j) rec) 0 (front (g .pages)) ≡ part s 0 (front (g .pages))
+    front-put = part-before s (placeAt g j) rec 0 (front (g .pages)) put-fits (omega arith)
+
     pub place-put : (i : ℕ) → placeIn g (patch s (placeAt g j) rec) i ≡ cond (eqb j i) rec (placeIn g s i)
     place-put i = go (eqb j i) refl
       where
@@ -187,6 +176,7 @@ module _ (g : Geometry) (s : List ℕ) (f : Fitting g s) (make : List ℕ → Li
     sound : opened z ≡ opened s
     age : generationOf z ≡ generationOf s
     bits : (q : ℕ) → q < g .pages → pageBit z q ≡ pageBit s q
+    fronts : part z 0 (front (g .pages)) ≡ part s 0 (front (g .pages))
     places : (i : ℕ) → placeIn g z i ≡ cond (ltb i n) (make (placeIn g s i)) (placeIn g s i)
 
   ltb-step : (i n : ℕ) → (n ≡ i → ⊥) → ltb i n ≡ ltb i (suc n)
@@ -202,6 +192,7 @@ module _ (g : Geometry) (s : List ℕ) (f : Fitting g s) (make : List ℕ → Li
     sound = opened-put g z fz n p h l ∙ w .sound;
     age = generation-put g z fz n p h l ∙ w .age;
     bits = λ q b. bits-put g z fz n p h l q b ∙ w .bits q b;
+    fronts = front-put g z fz n p h l ∙ w .fronts;
     places = λ i. place-put g z fz n p h l i ∙ one i (eqb n i) refl;
   }
     where
@@ -222,7 +213,7 @@ module _ (g : Geometry) (s : List ℕ) (f : Fitting g s) (make : List ℕ → Li
 
   walk : (n : ℕ) → n ≤ 2 ^ g .e → Walked n (walked n)
   unfolding eachPlace walked
-  walk zero h = record { fits = f; sound = refl; age = refl; bits = λ q b. refl; places = λ i. rw (le-ltb i 0 (omega arith)) }
+  walk zero h = record { fits = f; sound = refl; age = refl; bits = λ q b. refl; fronts = refl; places = λ i. rw (le-ltb i 0 (omega arith)) }
   walk (suc n) h = step n (omega arith) (walked n) (walk n (omega arith))
 
   all : Walked (2 ^ g .e) (walked (2 ^ g .e))
@@ -243,6 +234,10 @@ module _ (g : Geometry) (s : List ℕ) (f : Fitting g s) (make : List ℕ → Li
   pub bits-each : (q : ℕ) → q < g .pages → pageBit (eachPlace make (front (g .pages)) (g .size) (2 ^ g .e) s) q ≡ pageBit s q
   unfolding walked
   bits-each = all .bits
+
+  pub front-each : part (eachPlace make (front (g .pages)) (g .size) (2 ^ g .e) s) 0 (front (g .pages)) ≡ part s 0 (front (g .pages))
+  unfolding walked
+  front-each = all .fronts
 
   pub place-each : (i : ℕ) → i < 2 ^ g .e → placeIn g (eachPlace make (front (g .pages)) (g .size) (2 ^ g .e) s) i ≡ make (placeIn g s i)
   unfolding walked
@@ -389,3 +384,81 @@ module _ (g : Geometry) (s z : List ℕ) (f : Fitting g s) (d : Fitting g z) whe
           let hi : i < 2 ^ g .e = div-lt-iff-lt-mul some .1 (rw (mul-comm (2 ^ g .e) (g .size)) (omega (arith, f .size))) in
           let at : k ≡ placeAt g i + j = omega (arith, div-add-mod' n (g .size), mul-comm i (g .size)) in
           byte s (placeAt g i) (g .size) j k hj at ∙ ap (λ (l : List ℕ). getD l j 0) (places i hi) ∙ sym (byte z (placeAt g i) (g .size) j k hj at)
+
+-- zeros behind the header, and then the address of an empty place for each
+module _ (g : Geometry) (s : List ℕ) (f : Fitting g s) where
+  zeroed : List ℕ
+  zeroed = patch s 32 (replicate (length s - 32) 0)
+
+  first : ℕ
+  first = front (g .pages)
+
+  behind : ℕ
+  behind = length s - 32
+
+  header-in : 32 ≤ length s
+  header-in = let w = front-fits g s f in omega arith
+
+  zeros-long : length (replicate {A = ℕ} behind 0) ≡ behind
+  zeros-long = length-replicate {A = ℕ} behind 0
+
+  zeros-fit : 32 + length (replicate {A = ℕ} behind 0) ≤ length s
+  unfolding behind
+  zeros-fit = omega (arith, zeros-long, header-in)
+
+  fitting-zeroed : Fitting g zeroed
+  unfolding zeroed behind
+  fitting-zeroed = record { bounds = f .bounds; size = length-patch s 32 (replicate behind 0) zeros-fit ∙ f .size }
+
+  -- header and bitmap, and then zeros
+  zeroed-is : zeroed ≡ (take 32 s ++ replicate (first - 32) 0) ++ replicate (g .size * 2 ^ g .e) 0
+  unfolding zeroed behind first patch
+  zeroed-is =
+      rw (drop-of-length-le s none-left, append-nil)
+      (ap (λ (l : List ℕ). take 32 s ++ l) (ap (λ (n : ℕ). replicate {A = ℕ} n 0) split ∙ sym (replicate-append-replicate (first - 32) (g .size * 2 ^ g .e) 0))
+      ∙ sym (append-assoc (take 32 s) (replicate (first - 32) 0) (replicate (g .size * 2 ^ g .e) 0)))
+    where
+      none-left : length s ≤ 32 + length (replicate {A = ℕ} (length s - 32) 0)
+      none-left = omega (arith, zeros-long, header-in)
+
+      split : length s - 32 ≡ first - 32 + g .size * 2 ^ g .e
+      split = omega (arith, f .size)
+
+  front-long : length (take 32 s ++ replicate {A = ℕ} (first - 32) 0) ≡ first
+  unfolding first
+  front-long = simp (length-append, length-take, length-replicate) (omega (arith, header-in))
+
+  front-of : (rest : List ℕ) → part ((take 32 s ++ replicate (first - 32) 0) ++ rest) 0 first ≡ take 32 s ++ replicate (first - 32) 0
+  unfolding part
+  front-of rest = take-at (take 32 s ++ replicate (first - 32) 0) rest first front-long
+
+  zero-place : (i : ℕ) → i < 2 ^ g .e → placeIn g zeroed i ≡ replicate (g .size) 0
+  unfolding zeroed behind
+  zero-place i h = ext-getD 0 (placeIn g zeroed i) (replicate (g .size) 0) (long ∙ sym (length-replicate {A = ℕ} (g .size) 0)) (λ j c. byte j (omega (arith, long)))
+    where
+      long : length (placeIn g zeroed i) ≡ g .size
+      long = length-part zeroed (placeAt g i) (g .size) (place-fits g zeroed i fitting-zeroed h)
+
+      byte : (j : ℕ) → j < g .size → getD (placeIn g zeroed i) j 0 ≡ getD (replicate (g .size) 0) j 0
+      byte j c =
+          let k = placeAt g i + j in
+          let at : k ≡ 32 + (k - 32) = omega arith in
+          let less : k - 32 < behind = let w = place-fits g zeroed i fitting-zeroed h in omega (arith, f .size, fitting-zeroed .size) in
+          getD-part zeroed (placeAt g i) (g .size) j c
+          ∙ ap (λ (n : ℕ). getD zeroed n 0) at
+          ∙ sym (getD-part zeroed 32 behind (k - 32) less)
+          ∙ ap (λ (l : List ℕ). getD l (k - 32) 0) (ap (part zeroed 32) (sym zeros-long) ∙ part-same s 32 (replicate behind 0) zeros-fit)
+          ∙ getD-replicate behind (k - 32) 0 0 less
+          ∙ sym (getD-replicate (g .size) j 0 0 c)
+
+  keeps-size : (p : List ℕ) → length p ≡ g .size → length (vacated p) ≡ g .size
+  keeps-size p l = length-vacated p (omega (arith, f .bounds .room)) ∙ l
+
+  pub wiped : eachPlace vacated (front (g .pages)) (g .size) (2 ^ g .e) (patch s 32 (replicate (length s - 32) 0)) ≡ take 32 s ++ blank g
+  unfolding zeroed first vacated
+  wiped =
+      store-ext g (eachPlace vacated first (g .size) (2 ^ g .e) zeroed) (take 32 s ++ blank g) (fitting-each g zeroed fitting-zeroed vacated keeps-size) (fitting-flushed g s f)
+      (front-each g zeroed fitting-zeroed vacated keeps-size
+      ∙ ap (λ (l : List ℕ). part l 0 first) zeroed-is ∙ front-of (replicate (g .size * 2 ^ g .e) 0)
+      ∙ sym (ap (λ (l : List ℕ). part l 0 first) (sym (append-assoc (take 32 s) (replicate (first - 32) 0) (copies (2 ^ g .e) (emptyPlace (g .size))))) ∙ front-of (copies (2 ^ g .e) (emptyPlace (g .size)))))
+      (λ i h. place-each g zeroed fitting-zeroed vacated keeps-size i h ∙ ap vacated (zero-place i h) ∙ empty-made (g .size) (omega (arith, f .bounds .room)) ∙ sym (place-flushed g s f i h))

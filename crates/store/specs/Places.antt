@@ -7,11 +7,9 @@ use lib.Bits.{bitAnd, bitOr}
 use lib.Dec.{eqb}
 use lib.ListN.{length, getD, set, replicate}
 use Rattle.bits.specs.Bits.{bit}
-use Rattle.bits.specs.Bytes.{doublewordAt, part, patch}
+use Rattle.bits.specs.Bytes.{le, doublewordAt, part, patch}
 use Rattle.store.specs.Layout.{front}
 use Rattle.store.specs.declared.Geometry.{Geometry}
-use Rattle.store.specs.declared.Which.{Which}
-use Rattle.store.specs.declared.Which.the-variants.{EveryPlace, OnPage}
 
 -- bit p mod 8 of byte p / 8 of the bitmap
 unfoldable pub pageBit : List ℕ → ℕ → Bool
@@ -29,13 +27,13 @@ withBit s p on = set s (32 + p / 8) (putBit on (p % 8) (getD s (32 + p / 8) 0))
 unfoldable pub emptyPlace : ℕ → List ℕ
 emptyPlace z = replicate 8 255 ++ replicate (z - 8) 0
 
--- the addresses whose places are to be emptied: all, or those in a page, which is counted from address 0
-abbrev pub concerns : Which → ℕ → Bool
-concerns EveryPlace a = true
-concerns (OnPage page) a = eqb (a / 4096) page
+-- a place after a notice in a page, which is counted from address 0
+unfoldable pub emptied : ℕ → List ℕ → List ℕ
+emptied page p = cond (eqb (doublewordAt p 0 / 4096) page) (emptyPlace (length p)) p
 
-unfoldable pub emptied : Which → List ℕ → List ℕ
-emptied w p = cond (concerns w (doublewordAt p 0)) (emptyPlace (length p)) p
+-- a place with the address of an empty one
+unfoldable pub vacated : List ℕ → List ℕ
+vacated p = patch p 0 (le 8 0xFFFF_FFFF_FFFF_FFFF)
 
 -- the first n places of z bytes from `first` on, one after the other, each as f makes it
 unfoldable pub eachPlace : (List ℕ → List ℕ) → ℕ → ℕ → ℕ → List ℕ → List ℕ

@@ -6,7 +6,7 @@ ghost use Prim.Native.Nat.{_+_, _-_, _*_, _/_, _^_, _≤_, _<_};
 ghost use lib.ListN.{length, take, replicate};
 ghost use Rattle.bits.specs.Bytes.{part, patch};
 ghost use Rattle.store.specs.Layout.{header, inBounds, front, storeSize, geometry, opened, Bounded, Fitting, holds, pageOf, slotOf, placeAt, bumped};
-ghost use Rattle.store.specs.Places.{pageBit, putBit, withBit, emptyPlace, concerns, emptied, eachPlace, blank};
+ghost use Rattle.store.specs.Places.{pageBit, putBit, withBit, emptyPlace, emptied, vacated, eachPlace, blank};
 use block::MAX_PAGES;
 use block::PAGE;
 use block::Slot;
@@ -175,23 +175,6 @@ pub fn bump(store: &mut [u8])
     bits::put_doubleword(store, 24, std::num::wrapping_add_u64(generation, 1));
 }
 
-// Which places are emptied: all, or those with an address in a page, which is counted from address 0.
-pub enum Which {
-    EveryPlace,
-    OnPage(u64),
-}
-
-impl Which {
-    fn concerns(self, address: u64) -> bool
-        ensures { λ r. ⌜ r ≡ concerns self address ⌝ }
-    {
-        match self {
-            Self::EveryPlace => true,
-            Self::OnPage(page) => address / PAGE == page,
-        }
-    }
-}
-
 fn empty(place: &mut [u8])
     requires { ⌜ 8 ≤ length (now place) ⌝ }
     ensures { λ _. ⌜ now (place .exit) ≡ emptyPlace (length (now (place .entry))) ⌝ }
@@ -200,51 +183,65 @@ fn empty(place: &mut [u8])
     bits::put_doubleword(place, 0, Slot::EMPTY);
 }
 
-fn empty_if(place: &mut [u8], which: Which)
+fn empty_if(place: &mut [u8], page: u64)
     requires { ⌜ 8 ≤ length (now place) ⌝ }
-    ensures { λ _. ⌜ now (place .exit) ≡ emptied which (now (place .entry)) ⌝ }
+    ensures { λ _. ⌜ now (place .exit) ≡ emptied page (now (place .entry)) ⌝ }
 {
-    if which.concerns(bits::doubleword_at(place, 0)) {
+    if bits::doubleword_at(place, 0) / PAGE == page {
         empty(place);
     }
 }
 
-fn empty_at(store: &mut [u8], at: usize, size: usize, which: Which)
+fn empty_at(store: &mut [u8], at: usize, size: usize, page: u64)
     requires { ⌜ (8 ≤ size) × (at + size ≤ length (now store)) ⌝ }
-    ensures { λ _. ⌜ now (store .exit) ≡ patch (now (store .entry)) at (emptied which (part (now (store .entry)) at size)) ⌝ }
+    ensures { λ _. ⌜ now (store .exit) ≡ patch (now (store .entry)) at (emptied page (part (now (store .entry)) at size)) ⌝ }
 {
-    empty_if(&mut store[at..at + size], which);
+    empty_if(&mut store[at..at + size], page);
 }
 
-// Goes over n places of `size` bytes from `first` on.
-pub fn empty_places(store: &mut [u8], first: usize, size: usize, n: usize, which: Which)
+// Empties those of n places of `size` bytes from `first` on that have an address in the page, which is counted from address 0.
+pub fn empty_places(store: &mut [u8], first: usize, size: usize, n: usize, page: u64)
     requires { ⌜ (8 ≤ size) × (first + size * n ≤ length (now store)) ⌝ }
-    ensures { λ _. ⌜ now (store .exit) ≡ eachPlace (emptied which) first size n (now (store .entry)) ⌝ }
+    ensures { λ _. ⌜ now (store .exit) ≡ eachPlace (emptied page) first size n (now (store .entry)) ⌝ }
 {
     let mut i = 0;
     let mut at = first;
     while i < n {
-        empty_at(store, at, size, which);
+        empty_at(store, at, size, page);
         at += size;
         i += 1;
     }
 }
 
-fn clear_bits(store: &mut [u8], end: usize)
-    requires { ⌜ (32 ≤ end) × (end ≤ length (now store)) ⌝ }
-    ensures { λ _. ⌜ now (store .exit) ≡ patch (now (store .entry)) 32 (replicate (end - 32) 0) ⌝ }
+// Zeros from here on.
+fn clear_from(store: &mut [u8], at: usize)
+    requires { ⌜ at ≤ length (now store) ⌝ }
+    ensures { λ _. ⌜ now (store .exit) ≡ patch (now (store .entry)) at (replicate (length (now (store .entry)) - at) 0) ⌝ }
 {
-    bits::fill(&mut store[32..end], 0);
+    bits::fill(&mut store[at..], 0);
 }
 
-// No bit set, all places empty; the header stays.
+// The address of an empty place for each of n.
+fn vacate_places(store: &mut [u8], first: usize, size: usize, n: usize)
+    requires { ⌜ (8 ≤ size) × (first + size * n ≤ length (now store)) ⌝ }
+    ensures { λ _. ⌜ now (store .exit) ≡ eachPlace vacated first size n (now (store .entry)) ⌝ }
+{
+    let mut i = 0;
+    let mut at = first;
+    while i < n {
+        bits::put_doubleword(store, at, Slot::EMPTY);
+        at += size;
+        i += 1;
+    }
+}
+
+// No bit set, all places empty; the header stays. Zeros go over all of it at once.
 pub fn wipe(store: &mut [u8], g: Geometry)
     requires { ⌜ Fitting g (now store) ⌝ }
     ensures { λ _. ⌜ now (store .exit) ≡ take 32 (now (store .entry)) ++ blank g ⌝ }
 {
-    let first = g.front();
-    clear_bits(store, first);
-    empty_places(store, first, g.size, g.slots(), Which::EveryPlace);
+    clear_from(store, 32);
+    vacate_places(store, g.front(), g.size, g.slots());
 }
 
 // The header of a new store.

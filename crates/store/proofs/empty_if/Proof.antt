@@ -1,7 +1,10 @@
 -- `store::empty_if` meets its contract: the test is the definition's.
 -- Assumes nothing.
-use mathlib.Core.Path.{_∙_}
-use Rattle.store.specs.Places.{concerns, emptied}
+use mathlib.Core.Path.{sym, ap, _∙_}
+use Prim.Native.Nat.{ℕ, _/_}
+use borrow.Author.Tests.{eq-eqb, ne-eqb}
+use Rattle.bits.specs.Bytes.{doublewordAt}
+use Rattle.store.specs.Places.{emptied}
 use borrow.Author.Needs.{needs}
 use Rattle.store.proofs.empty_if.Statement.{statement}
 use Rattle.store.proofs.empty_if.Tie as tie
@@ -9,20 +12,23 @@ use Rattle.store.proofs.empty_if.Tie as tie
 taken : tie.Need-returns
 unfolding emptied
 taken c =
-    let test = c .before .before .before .before .before in
-    c .before .before .empty .ensures ∙ rw (← test .before .doubleword-at .ensures, ← test .concerns .ensures, c .before .before .before .before .if1 .taken)
+    let test = c .before .before .before .before in
+    let read = test .before in
+    let a = read .before .before .before .args in
+    c .before .before .empty .ensures ∙ rw (eq-eqb (doublewordAt (a .place .now) 0 / 4096) (a .page) (ap (λ (x : ℕ). x / 4096) (sym (read .doubleword-at .ensures)) ∙ test .if1 .taken))
 
 left : tie.Need-returns-2
 unfolding emptied
 left c =
-    let test = c .before in
-    rw (← test .before .doubleword-at .ensures, ← test .concerns .ensures, c .if1 .left)
+    let read = c .before in
+    let a = read .before .before .before .args in
+    rw (ne-eqb (doublewordAt (a .place .now) 0 / 4096) (a .page) (λ e. c .if1 .left (ap (λ (x : ℕ). x / 4096) (read .doubleword-at .ensures) ∙ e)))
 
 pub empty-if-spec : {M : Type 1} → statement M
 empty-if-spec =
     tie.close
     (tie.spec
-    (λ c κs. search needs) (λ c κs. search needs) (λ c κs. search needs) (λ c. search needs)
+    (λ c κs. search needs) (λ c κs. search needs) (λ c. search needs)
     (λ c. taken c)
     (λ c. search needs)
     (λ c. left c))

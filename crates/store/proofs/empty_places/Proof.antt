@@ -13,10 +13,10 @@ use Rattle.store.proofs.empty_places.Statement.{statement}
 use Rattle.store.proofs.empty_places.Tie as tie
 
 abbrev Inv-loop : tie.InvT-loop
-Inv-loop store₀ first size n which i₀ at₀ store i at = (i ≤ n) × (at ≡ first + size * i) × (store ≡ eachPlace (emptied which) first size i store₀) × (length store ≡ length store₀)
+Inv-loop store₀ first size n page i₀ at₀ store i at = (i ≤ n) × (at ≡ first + size * i) × (store ≡ eachPlace (emptied page) first size i store₀) × (length store ≡ length store₀)
 
 abbrev μ-loop : tie.MeasureT-loop
-μ-loop store₀ first size n which i₀ at₀ store i at = n - i
+μ-loop store₀ first size n page i₀ at₀ store i at = n - i
 
 begun : tie.Need-loop-holds Inv-loop μ-loop
 unfolding eachPlace

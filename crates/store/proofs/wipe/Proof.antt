@@ -1,8 +1,8 @@
--- `store::wipe` meets its contract: zeros in the bitmap, and then a walk over all places.
+-- `store::wipe` meets its contract: zeros behind the header, and then an empty place's address for each.
 -- Assumes nothing.
 use mathlib.Core.Path.{_∙_}
 use native.Mathlib.Omega.{arith}
-use Rattle.store.proofs.Places.{wiped}
+use Rattle.store.proofs.View.{wiped}
 use borrow.Author.Needs.{needs}
 use Rattle.store.proofs.wipe.Statement.{statement}
 use Rattle.store.proofs.wipe.Tie as tie
@@ -14,12 +14,12 @@ wipe-spec =
     (λ c κs. search needs) (λ c κs. search needs) (λ c κs. search needs)
     (λ c κs.
     let start = c .before .before .before .before .before .before .before .before in
-    rw (c .slots .ensures .0) (omega (arith, start .pre)))
+    rw (c .before .front .ensures .0, c .slots .ensures .0) (omega (arith, start .pre)))
     (λ c. search needs)
     (λ c.
     let walk = c .before .before in
-    let clear = walk .before .before .before .before .before in
-    let start = clear .before .before .before .before in
-    walk .empty-places .ensures
-    ∙ rw (walk .before .slots .ensures .0, clear .clear-bits .ensures, clear .before .before .front .ensures .0)
+    let clear = walk .before .before .before .before .before .before in
+    let start = clear .before .before .before in
+    walk .vacate-places .ensures
+    ∙ rw (walk .before .slots .ensures .0, walk .before .before .front .ensures .0, clear .clear-from .ensures)
     (wiped (start .args .g) (start .args .store .now) (start .pre))))
