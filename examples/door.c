@@ -9,40 +9,88 @@
 #include <string.h>
 #include "unvriscol.h"
 
-static void show(const char *what, uint64_t number, const uint8_t *record) {
-    printf("%-34s %" PRIu64 " ", what, number);
+static void op(const char *what, const uint8_t *record) {
+    printf("%s ", what);
     for (size_t i = 0; i < UV_OP_RECORD; i++)
         printf(" %u", record[i]);
     printf("\n");
 }
 
+static void decoded(const char *what, uint64_t number, const uint8_t *record) {
+    printf("%-34s %" PRIu64, what, number);
+    op("", record);
+}
+
 static void word(const char *what, uint32_t raw) {
     uint8_t record[UV_OP_RECORD];
     memset(record, 255, sizeof record);
-    show(what, uv_decode_word(raw, record, sizeof record), record);
+    decoded(what, uv_decode_word(raw, record, sizeof record), record);
 }
 
 static void halfword(const char *what, uint16_t raw) {
     uint8_t record[UV_OP_RECORD];
     memset(record, 255, sizeof record);
-    show(what, uv_decode_halfword(raw, record, sizeof record), record);
+    decoded(what, uv_decode_halfword(raw, record, sizeof record), record);
 }
 
-static void alu(const char *what, uint64_t kind, uint64_t lhs, uint64_t rhs) {
-    uv_answer answer = uv_alu(kind, lhs, rhs);
-    printf("%-34s %" PRIu64 "  0x%" PRIX64 "\n", what, answer.number, answer.value);
+static void answer(const char *what, uv_answer a) {
+    printf("%-34s %" PRIu64 "  0x%" PRIX64 "\n", what, a.number, a.value);
 }
 
-int main(void) {
+static void number(const char *what, uint64_t n) {
+    printf("%-34s %" PRIu64 "\n", what, n);
+}
+
+static void decode_and_compute(void) {
     uint8_t record[UV_OP_RECORD] = {0};
 
     word("addi a0, zero, 1", 0x00100513);
     word("ecall: no op, no byte changed", 0x00000073);
     halfword("c.jr ra", 0x8082);
     halfword("c.ebreak: no op, no byte changed", 0x9002);
-    show("a record of 15 bytes", uv_decode_word(0x00100513, record, 15), record);
-    alu("sra of 2^63 by 1", 7, UINT64_C(1) << 63, 1);
-    alu("addw of 0x7FFFFFFF and 1", 10, 0x7FFFFFFF, 1);
-    alu("mul: refused", 15, 6, 7);
+    decoded("a record of 15 bytes", uv_decode_word(0x00100513, record, 15), record);
+    answer("sra of 2^63 by 1", uv_alu(7, UINT64_C(1) << 63, 1));
+    answer("addw of 0x7FFFFFFF and 1", uv_alu(10, 0x7FFFFFFF, 1));
+    answer("mul: refused", uv_alu(15, 6, 7));
+}
+
+/* A block is formed, kept, found, and dropped by a write to its page. */
+static void round_of_the_cache(void) {
+    enum { E = 2, PAGES = 2, BASE = 0x1000 };
+    static uint8_t memory[PAGES * 4096] = {0x13, 0x05, 0x10, 0x00, 0x82, 0x80}; /* addi a0, zero, 1; c.jr ra */
+    static uint8_t store[UV_STORE(E, PAGES)];
+    uint8_t record[UV_BLOCK_RECORD];
+
+    number("make 4 slots over 2 pages", uv_make(store, sizeof store, E, BASE, PAGES));
+    number("form the block at 0x1000", uv_form(memory, sizeof memory, BASE, 0x1000, record, sizeof record));
+    op("  its first op ", record + 16);
+    op("  its second op", record + 32);
+    answer("lookup: not there yet", uv_lookup(store, sizeof store, 0x1000));
+    number("insert", uv_insert(store, sizeof store, 0x1000, record, sizeof record));
+    number("insert at 0x1002: not its record", uv_insert(store, sizeof store, 0x1002, record, sizeof record));
+    answer("generation", uv_generation(store, sizeof store));
+
+    uv_answer hit = uv_lookup(store, sizeof store, 0x1000);
+    answer("lookup: where in the store", hit);
+    printf("%-34s %s\n", "  the record is there", memcmp(store + hit.value, record, sizeof record) == 0 ? "yes" : "no");
+
+    answer("write to the other page", uv_guest_write(store, sizeof store, memory, sizeof memory, 0x2000, 8, 1));
+    answer("lookup: still there", uv_lookup(store, sizeof store, 0x1000));
+    answer("write into the block", uv_guest_write(store, sizeof store, memory, sizeof memory, 0x1004, 2, 0x0001));
+    answer("lookup: gone", uv_lookup(store, sizeof store, 0x1000));
+    answer("write past the end: refused", uv_guest_write(store, sizeof store, memory, sizeof memory, 0x2FFF, 2, 0));
+
+    number("form: c.nop now, and no c.jr", uv_form(memory, sizeof memory, BASE, 0x1000, record, sizeof record));
+    op("  its second op", record + 32);
+    number("insert", uv_insert(store, sizeof store, 0x1000, record, sizeof record));
+    answer("notice of a write elsewhere", uv_notice(store, sizeof store, 0x2000));
+    answer("notice of a write to its page", uv_notice(store, sizeof store, 0x1FFF));
+    number("flush", uv_flush(store, sizeof store));
+    answer("generation", uv_generation(store, sizeof store));
+}
+
+int main(void) {
+    decode_and_compute();
+    round_of_the_cache();
     return 0;
 }

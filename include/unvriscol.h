@@ -27,6 +27,12 @@ extern "C" {
 /* An op record: op, kind, rd, rs1, rs2, ilen, pc_off (2 bytes), immediate (8 bytes), little-endian. */
 #define UV_OP_RECORD 16
 
+/* A block record: address (8 bytes), op count (2), byte_len (2), four zeros, then 64 op records, unused ones all zero. */
+#define UV_BLOCK_RECORD 1040
+
+/* The length of a store with 2^e slots, e from 0 to 14, over so many pages of 4,096 bytes, 1 to 65,536. */
+#define UV_STORE(e, pages) (32 + 8 * (((pages) + 63) / 64) + ((size_t)UV_BLOCK_RECORD << (e)))
+
 typedef struct {
     uint64_t number;
     uint64_t value;
@@ -38,6 +44,32 @@ uint64_t uv_decode_halfword(uint16_t raw, uint8_t *record, size_t record_len);
 
 /* What the ALU kind of that number makes of two operands; the value is the result. Refusal: 7. */
 uv_answer uv_alu(uint64_t kind, uint64_t lhs, uint64_t rhs);
+
+/* Form the block at an address of guest memory, which is whole pages from base on, into a record of UV_BLOCK_RECORD bytes. Refusals: 2, 6, 3, 4. */
+uint64_t uv_form(const uint8_t *memory, size_t memory_len, uint64_t base, uint64_t address, uint8_t *record, size_t record_len);
+
+/* Make a store of UV_STORE(e, pages) bytes, whatever they were, for the memory that is so many pages from base on. Refusals: 2, 1. */
+uint64_t uv_make(uint8_t *store, size_t store_len, uint64_t e, uint64_t base, uint64_t pages);
+
+/* Look the block at an address up; the value is where in the store its UV_BLOCK_RECORD bytes begin. Refusals: 1, 9. */
+uv_answer uv_lookup(const uint8_t *store, size_t store_len, uint64_t address);
+
+/* Insert the record of the block at an address, in the place of whatever its slot held. Refusals: 1, 6, 3, 5. */
+uint64_t uv_insert(uint8_t *store, size_t store_len, uint64_t address, const uint8_t *record, size_t record_len);
+
+/* Tell the cache of a write at an address: the blocks of its page are dropped. The value is the slots examined. Refusal: 1. */
+uv_answer uv_notice(uint8_t *store, size_t store_len, uint64_t address);
+
+/* Drop every block; the generation is kept. Refusal: 1. */
+uint64_t uv_flush(uint8_t *store, size_t store_len);
+
+/* The value is the generation: 1 at first, and 1 more with each insertion, wrapping. Refusal: 1. */
+uv_answer uv_generation(const uint8_t *store, size_t store_len);
+
+/* Write the low 1, 2, 4 or 8 bytes of a value to guest memory, after a notice for each page touched. The memory is all of that of the store.
+ * The value returned is the slots examined. Refusals: 1, 2, 8, 3. */
+uv_answer uv_guest_write(uint8_t *store, size_t store_len, uint8_t *memory, size_t memory_len, uint64_t address, uint64_t size,
+                         uint64_t value);
 
 #ifdef __cplusplus
 }

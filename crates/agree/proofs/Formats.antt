@@ -1,6 +1,6 @@
 -- The Rust's forms and the manual's formats: when they are one, and when every word that has them has different ops.
 -- Assumes nothing.
-use mathlib.Core.Path.{_≡_, refl, sym, ap, subst, _∙_}
+use mathlib.Core.Path.{_≡_, refl, sym, ap, _∙_}
 use mathlib.Core.Bool.{Bool, true, false, not, _&&_}
 use mathlib.Core.List.{[], _∷_}
 use Prim.Native.Nat.{ℕ, suc, _+_, _*_, _^_}
@@ -10,7 +10,7 @@ use lib.ListN.{getD}
 use Rattle.bits.specs.Bits.{bitsAt, signed}
 use Rattle.bits.specs.Match.{_⇒_, case}
 use Rattle.bits.proofs.Every.{both}
-use Rattle.op.specs.Kinds.{aluNumber, aluKinds, loadNumber, loadKinds, storeNumber, storeKinds, branchNumber, branchKinds}
+use Rattle.op.specs.Kinds.{aluNumber, aluKinds, loadNumber, storeNumber, branchNumber}
 use Rattle.op.specs.Record.{opFields}
 use Rattle.op.specs.declared.Decoded.{Decoded}
 use Rattle.op.specs.declared.Decoded.the-variants.{Some, None}
@@ -18,7 +18,7 @@ use Rattle.op.specs.declared.AluKind.the-variants.{Add}
 use Rattle.op.specs.declared.LoadKind.the-variants.{Lb}
 use Rattle.op.specs.declared.StoreKind.the-variants.{Sb}
 use Rattle.op.specs.declared.BranchKind.the-variants.{Beq}
-use Rattle.op.proofs.Numbers.{alu-at, load-at, store-at, branch-at}
+use Rattle.op.proofs.Numbers.{alu-at, loadKinds, load-at, storeKinds, store-at, branchKinds, branch-at}
 use Rattle.word.specs.Instruction as rust
 use Rattle.word.specs.Word as rust-word
 use Rattle.word.specs.declared.Form.{Form}

@@ -1,7 +1,7 @@
 -- Outside the entries the Rust and the manual read each halfword alike, and at every halfword of an entry they differ.
 -- The quadrant and funct3 pick a row in each reading; row by row the manual's figures give the Rust's sums.
 -- Assumes nothing.
-use mathlib.Core.Path.{_≡_, refl, sym, ap, _∙_}
+use mathlib.Core.Path.{_≡_, refl, sym, _∙_}
 use mathlib.Core.Bool.{Bool, true, false, cond, _&&_, true≢false, false≢true}
 use Prim.Native.Nat.{ℕ, _+_, _*_, _/_, _<_}
 use native.Mathlib.Nat.{div-div-eq-div-mul}
@@ -10,7 +10,8 @@ use lib.Dec.{eqb}
 use borrow.Author.Tests.{eq-eqb, ne-eqb, eqb-true}
 use Rattle.bits.specs.Bits.{bitsAt}
 use Rattle.bits.specs.Match.{case}
-use Rattle.bits.proofs.Every.{All, each, decide}
+use Rattle.bits.proofs.Every.{each}
+use Rattle.bits.proofs.Tests.{and-both}
 use Rattle.op.specs.declared.Op.{Op}
 use Rattle.op.specs.declared.Decoded.{Decoded}
 use Rattle.op.specs.declared.Decoded.the-variants.{Some, None}
@@ -141,18 +142,13 @@ some-none e = let z : _≡_ {A = ℕ} 0 1 = cc in omega arith
 never : (w q f3 : ℕ) → halfPartsBy q f3 w ≡ false → Apart w q f3
 never w q f3 e h = absurd (false≢true (sym e ∙ h))
 
-both : (x y : Bool) → (x && y) ≡ true → (x ≡ true) × (y ≡ true)
-both true true h = (refl, refl)
-both true false h = absurd (false≢true h)
-both false y h = absurd (false≢true h)
-
 one-of : (c : Bool) (p q : Op) → cond c (Some p) (Some q) ≡ cond c None None → ⊥
 one-of true p q = some-none
 one-of false p q = some-none
 
 wide-apart : (w : ℕ) → Apart w 1 3
 wide-apart w h d =
-    let k = both (eqb (bitsAt w 12 1) 0) (eqb (bitsAt w 2 5) 0) h in
+    let k = and-both (eqb (bitsAt w 12 1) 0) (eqb (bitsAt w 2 5) 0) h in
     let x = eqb-true (bitsAt w 12 1) 0 (k .0) in
     let y = eqb-true (bitsAt w 2 5) 0 (k .1) in
     let s = pieces w in
@@ -162,8 +158,8 @@ wide-apart w h d =
 
 jumps-apart : (w : ℕ) → Apart w 2 4
 jumps-apart w h d =
-    let k = both (eqb (bitsAt w 12 1) 0 && eqb (rs2 w) 0) (eqb (rd w) 0) h in
-    let l = both (eqb (bitsAt w 12 1) 0) (eqb (rs2 w) 0) (k .0) in
+    let k = and-both (eqb (bitsAt w 12 1) 0 && eqb (rs2 w) 0) (eqb (rd w) 0) h in
+    let l = and-both (eqb (bitsAt w 12 1) 0) (eqb (rs2 w) 0) (k .0) in
     some-none (rw (eqb-true (bitsAt w 12 1) 0 (l .0), l .1, k .1) at d)
 
 differ1 : (w f3 : ℕ) → f3 < 8 → Apart w 1 f3

@@ -10,7 +10,7 @@ use native.Mathlib.Omega.{arith}
 use lib.Dec.{T, eqb}
 use borrow.Author.Tests.{ne-eqb}
 use Rattle.bits.specs.Bits.{bitsAt}
-use Rattle.bits.proofs.Every.{every, both, at, at-three, decide}
+use Rattle.bits.proofs.Every.{every, at, at-three, decide}
 use Rattle.word.specs.Word.{formBy, formOf, rustWord}
 use Rattle.manual.specs.Words.{Format, formatBy, formatOf, manualWord, opOf}
 use Rattle.agree.specs.Differences.{wordPartsBy, wordParts}

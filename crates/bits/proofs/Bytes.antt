@@ -4,7 +4,7 @@ use mathlib.Core.Path.{_≡_, refl, sym, ap, _∙_}
 use mathlib.Core.List.{List, [], _∷_, _++_, append-nil, append-assoc}
 use Prim.Native.Nat.{ℕ, zero, suc, _+_, _-_, _*_, _/_, _%_, _^_, _≤_, _<_}
 use native.Mathlib.Omega.{arith}
-use native.Mathlib.Nat.{add-assoc, add-sub-cancel-left, add-sub-of-le, div-div-eq-div-mul, mod-lt, mod-eq-of-lt}
+use native.Mathlib.Nat.{add-assoc, add-sub-cancel-left, add-sub-of-le, div-div-eq-div-mul, mod-eq-of-lt}
 use lib.ListN.{length, take, drop, getD, length-append, length-take, length-drop, take-append-drop, drop-of-length-le}
 use lib.Seq.{drop-drop, take-all, take-at, drop-at, take-append-le, drop-append-le, length-take-le, getD-take, getD-drop}
 use borrow.Rule.Slice.PartMut.{putMid}

@@ -8,7 +8,7 @@ use lib.ListN.{length, drop}
 use borrow.Author.Tests.{eqb-true, leb-true, eq-eqb, le-leb}
 use Rattle.bits.specs.Bytes.{halfwordAt, wordAt, doublewordAt}
 use Rattle.block.specs.WellFormed.{opsWellFormed, wellFormed}
-use Rattle.block.proofs.Tests.{both}
+use Rattle.bits.proofs.Tests.{and-both}
 
 pub record Head (s : List ℕ) (address : ℕ) : Type 0 where
   pub long : length s ≡ 1040
@@ -28,12 +28,12 @@ decides h = rw (eq-eqb _ _ (h .long), eq-eqb _ _ (h .addressed), eq-eqb _ _ (h .
 pub says : {s : List ℕ} {address : ℕ} → wellFormed s address ≡ true → Head s address × (opsDecide s ≡ true)
 unfolding wellFormed
 says e =
-    let a = both _ _ e in
-    let b = both _ _ (a .0) in
-    let c = both _ _ (b .0) in
-    let d = both _ _ (c .0) in
-    let f = both _ _ (d .0) in
-    let g = both _ _ (f .0) in (
+    let a = and-both _ _ e in
+    let b = and-both _ _ (a .0) in
+    let c = and-both _ _ (b .0) in
+    let d = and-both _ _ (c .0) in
+    let f = and-both _ _ (d .0) in
+    let g = and-both _ _ (f .0) in (
       record {
         long = eqb-true _ _ (g .0);
         addressed = eqb-true _ _ (g .1);

@@ -8,8 +8,8 @@ use native.Mathlib.Omega.{arith}
 use lib.ListN.{length, take, drop, length-drop}
 use lib.Seq.{length-take-le, take-add, drop-at, drop-drop}
 use borrow.Author.Tests.{eqb-true, leb-true, ltb-true}
-use Rattle.block.specs.Memory.{goodMemory, canHold, page, restOfPage}
-use Rattle.block.proofs.Tests.{both}
+use Rattle.block.specs.Memory.{goodMemory, canHold, restOfPage}
+use Rattle.bits.proofs.Tests.{and-both}
 
 pub record Geometry (size base : ℕ) : Type 0 where
   pub whole : size % 4096 ≡ 0
@@ -20,14 +20,14 @@ pub record Geometry (size base : ℕ) : Type 0 where
 
 pub geometry : {size base : ℕ} → goodMemory size base ≡ true → Geometry size base
 geometry e =
-    let a = both _ _ e in
-    let b = both _ _ (a .0) in
-    let c = both _ _ (b .0) in
-    let d = both _ _ (c .0) in
+    let a = and-both _ _ e in
+    let b = and-both _ _ (a .0) in
+    let c = and-both _ _ (b .0) in
+    let d = and-both _ _ (c .0) in
     record { whole = eqb-true _ _ (d .0); based = eqb-true _ _ (d .1); least = leb-true _ _ (c .1); most = leb-true _ _ (b .1); top = leb-true _ _ (a .1) }
 
 pub held : (size base address : ℕ) → canHold size base address ≡ true → (base ≤ address) × (address < base + size)
-held size base address e = let a = both _ _ e in (leb-true _ _ (a .0), ltb-true _ _ (a .1))
+held size base address e = let a = and-both _ _ e in (leb-true _ _ (a .0), ltb-true _ _ (a .1))
 
 -- a part of the page that starts at the address, as the code lends it
 pub rest-is : (memory : List ℕ) (base address : ℕ) → base % 4096 ≡ 0 → base ≤ address → address - base ≤ length memory

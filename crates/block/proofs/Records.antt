@@ -1,22 +1,21 @@
 -- The record of ops that are well formed where they stand is well formed.
 -- Assumes nothing.
-use mathlib.Core.Path.{_≡_, refl, sym, ap, _∙_}
+use mathlib.Core.Path.{_≡_, refl, ap, _∙_}
 use mathlib.Core.Bool.{true, _||_, not}
-use mathlib.Core.List.{List, [], _∷_, _++_, append-assoc}
+use mathlib.Core.List.{List, [], _∷_, _++_}
 use Prim.Native.Nat.{ℕ, suc, _+_, _-_, _*_, _%_, _^_, _≤_, _<_}
 use native.Mathlib.Omega.{arith}
 use native.Mathlib.Nat.{mod-eq-of-lt}
 use lib.Dec.{eqb}
-use lib.ListN.{length, drop, replicate, length-append, length-replicate}
-use lib.Seq.{take-at, drop-at}
+use lib.ListN.{length, replicate, length-append, length-replicate}
 use borrow.Author.Tests.{eq-eqb}
 use Rattle.bits.specs.Bytes.{le, halfwordAt}
-use Rattle.bits.proofs.Bytes.{length-le, halfword-le, word-le, doubleword-le}
+use Rattle.bits.proofs.Bytes.{halfword-le, doubleword-le}
 use Rattle.op.specs.Record.{opFields, opRecord}
 use Rattle.op.specs.WellFormed.{opWellFormed}
 use Rattle.op.specs.declared.Op.{Op}
 use Rattle.op.proofs.Record.{length-record}
-use Rattle.block.specs.Record.{Insn, insn, headBytes, opRecords, byteLen, blockRecord}
+use Rattle.block.specs.Record.{Insn, insn, opRecords, byteLen, blockRecord}
 use Rattle.block.specs.WellFormed.{jumps, placed, opsWellFormed, wellFormed}
 use Rattle.block.proofs.Head.{Head, decides}
 

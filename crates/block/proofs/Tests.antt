@@ -1,7 +1,7 @@
--- Tests of a difference, where the definition has a sum that could wrap in the code; and a test of both.
+-- Tests of a difference, where the definition has a sum that could wrap in the code.
 -- Assumes nothing.
 use mathlib.Core.Path.{_≡_, refl, sym}
-use mathlib.Core.Bool.{Bool, true, false, false≢true, _&&_}
+use mathlib.Core.Bool.{Bool, true, false}
 use Prim.Native.Nat.{ℕ, _+_, _-_, _≤_}
 use native.Mathlib.Omega.{arith}
 use lib.Dec.{ltb, leb}
@@ -23,7 +23,3 @@ room a b n h =
     same (leb a (n - b)) (leb (a + b) n)
     (λ t. le-leb (a + b) n (omega (arith, leb-true a (n - b) t)))
     (λ t. le-leb a (n - b) (omega (arith, leb-true (a + b) n t)))
-
-pub both : (a b : Bool) → (a && b) ≡ true → (a ≡ true) × (b ≡ true)
-both true b e = (refl, e)
-both false b e = absurd (false≢true e)

@@ -1,6 +1,6 @@
 // Where a block may stand in guest memory, what its record is, and whether bytes are a well-formed one.
 ghost use mathlib.Core.Path.{_≡_};
-ghost use Prim.Native.Nat.{_+_, _≤_};
+ghost use Prim.Native.Nat.{_≤_};
 ghost use lib.ListN.{length, drop};
 ghost use Rattle.block.specs.Memory.{goodMemory, canHold};
 ghost use Rattle.block.specs.Record.{headBytes};
@@ -93,20 +93,20 @@ pub fn head_bytes(address: u64, count: u16, byte_len: u16) -> [u8; 16]
     ]
 }
 
+// Without an early return, which would hold the compiler to a byte at a time.
 fn all_zero(s: &[u8]) -> bool
     ensures { λ r. ⌜ r ≡ allZero (now (s .entry)) ⌝ }
 {
+    let mut seen = 0u8;
     let mut i = 0;
     while i < s.len() {
-        if s[i] != 0 {
-            return false;
-        }
+        seen = seen | s[i];
         i += 1;
     }
-    true
+    seen == 0
 }
 
-fn jumps(op: u8) -> bool
+pub fn jumps(op: u8) -> bool
     ensures { λ r. ⌜ r ≡ jumps op ⌝ }
 {
     if op == 7 {

@@ -1,11 +1,6 @@
 // Document 01's values on forming, through the public call, and three listings of one input.
 // A line of the first part: the number, the record's address, count, byte_len, and the first op's number. A record starts as 170s.
-use libc::STDOUT_FILENO;
-
-fn number(n: u64, after: u8) {
-    io::print_decimal(STDOUT_FILENO, n);
-    io::write_all(STDOUT_FILENO, &[after]);
-}
+use lines::number;
 
 fn wide(x: u8) -> u64 {
     x as u64

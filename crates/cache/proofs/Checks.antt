@@ -1,9 +1,9 @@
 -- What an accepted call's checks have shown.
 -- Assumes nothing.
-use mathlib.Core.Path.{_≡_, refl, sym, ap, subst, _∙_}
+use mathlib.Core.Path.{_≡_, refl, sym, ap, subst}
 use mathlib.Core.Bool.{Bool, true, false, cond, _&&_}
 use mathlib.Core.List.{List}
-use Prim.Native.Nat.{ℕ, _+_, _*_, _≤_}
+use Prim.Native.Nat.{ℕ, _+_, _≤_}
 use native.Mathlib.Omega.{arith}
 use lib.Dec.{eqb}
 use lib.ListN.{length, take, length-append}
@@ -16,12 +16,16 @@ use Rattle.store.specs.Layout.{header, inBounds, storeSize, geometry, opened, F
 use Rattle.store.specs.declared.Geometry.{Geometry}
 use Rattle.store.specs.declared.Opened.{Opened}
 use Rattle.store.specs.declared.Opened.the-variants.{Sound, NotAStore}
-use Rattle.store.proofs.Known.{bounds-are, Known, opened-says, place-fits, slot-lt}
+use Rattle.store.proofs.Known.{bounds-are, opened-says, place-fits, slot-lt}
 use Rattle.cache.specs.Calls.{makeJudged, mayHold, placeOf, found, lookupCall, insertJudged}
+use Rattle.cache.specs.declared.Refusal.{Refusal}
 use Rattle.cache.specs.declared.Refusal.the-variants.{NoStore, BadGeometry, OutsideMemory, IllFormed, WrongRecordBuffer, NothingFound}
 use Rattle.cache.specs.declared.LookupAnswer.the-variants.{Hit, LookupRefused}
-use Rattle.cache.specs.declared.Judged.{Judged}
 use Rattle.cache.specs.declared.Judged.the-variants.{Accepted, Rejected}
+
+-- what is rejected is not accepted
+pub rejected : {why : Refusal} {g : Geometry} → Rejected why ≡ Accepted g → ⊥
+rejected q = let z : _≡_ {A = ℕ} 0 1 = cc in omega arith
 
 module _ (e base pages : ℕ) (s : List ℕ) (g : Geometry) where
   pub make-fits : makeJudged e base pages (length s) ≡ Accepted g → Fitting g s
@@ -31,8 +35,8 @@ module _ (e base pages : ℕ) (s : List ℕ) (g : Geometry) where
       go true ex true ey k =
           let q : geometry e base pages ≡ g = cc in
           subst (λ (z : Geometry). Fitting z s) q (record { bounds = bounds-are e base pages ex; size = eqb-true _ _ ey })
-      go true ex false ey k = absurd (let z : _≡_ {A = ℕ} 0 1 = cc in omega arith)
-      go false ex y ey k = absurd (let z : _≡_ {A = ℕ} 0 1 = cc in omega arith)
+      go true ex false ey k = absurd (rejected k)
+      go false ex y ey k = absurd (rejected k)
 
 pub opened-fits : (s : List ℕ) (g : Geometry) → opened s ≡ Sound g → Fitting g s
 opened-fits s g h = opened-says s g h .fitting
@@ -65,13 +69,13 @@ module _ (s : List ℕ) (a : ℕ) (rec : List ℕ) (g : Geometry) where
           let w : k ≡ g = cc in
           subst (λ (z : Geometry). opened s ≡ Sound z → mayHold z a ≡ true → Taken s a rec g) (sym w)
           (λ p r. record { sound = p; whole = eqb-true _ _ ex; inner = r; formed = ez }) e ey
-      tests k e true true false ex ey ez q = absurd (let z : _≡_ {A = ℕ} 0 1 = cc in omega arith)
-      tests k e true false z ex ey ez q = absurd (let z : _≡_ {A = ℕ} 0 1 = cc in omega arith)
-      tests k e false y z ex ey ez q = absurd (let z : _≡_ {A = ℕ} 0 1 = cc in omega arith)
+      tests k e true true false ex ey ez q = absurd (rejected q)
+      tests k e true false z ex ey ez q = absurd (rejected q)
+      tests k e false y z ex ey ez q = absurd (rejected q)
 
       go : (o : Opened) → opened s ≡ o → insertJudged o a rec ≡ Accepted g → Taken s a rec g
       go (Sound k) e q = tests k e (eqb (length rec) 1040) (mayHold k a) (wellFormed rec a) refl refl refl q
-      go NotAStore e q = absurd (let z : _≡_ {A = ℕ} 0 1 = cc in omega arith)
+      go NotAStore e q = absurd (rejected q)
 
 -- a hit lies within the store
 module _ (s : List ℕ) (a at n : ℕ) where

@@ -1,13 +1,12 @@
 -- What an accepted insertion and an eviction leave of a store's geometry, generation, page bits and places.
 -- Assumes nothing.
 use mathlib.Core.Path.{_≡_, ap, _∙_}
-use mathlib.Core.Bool.{Bool, true, false, cond}
+use mathlib.Core.Bool.{true, false, cond}
 use mathlib.Core.List.{List}
 use Prim.Native.Nat.{ℕ, _+_, _/_, _%_, _^_, _<_}
 use native.Mathlib.Omega.{arith}
 use lib.Dec.{eqb}
 use lib.ListN.{length}
-use Rattle.bits.specs.Bytes.{patch}
 use Rattle.store.specs.Layout.{opened, Fitting, holds, pageOf, slotOf, generationOf, bumped}
 use Rattle.store.specs.Places.{pageBit, withBit, emptied}
 use Rattle.store.specs.declared.Geometry.{Geometry}
@@ -16,7 +15,7 @@ use Rattle.store.specs.declared.Which.the-variants.{OnPage}
 use Rattle.store.proofs.Known.{page-lt, slot-lt}
 use Rattle.store.proofs.Places.{length-emptied}
 use Rattle.store.proofs.View.{placeIn, length-with, opened-with, generation-with, bits-with, place-with, length-bumped, opened-bumped, generation-bumped, bits-bumped, place-bumped, length-put, opened-put, generation-put, bits-put, place-put, fitting-each, opened-each, generation-each, bits-each, place-each}
-use Rattle.cache.specs.Calls.{placeOf, insertedIn, evicted}
+use Rattle.cache.specs.Calls.{insertedIn, evicted}
 
 -- emptying keeps a place's length
 keeps : (g : Geometry) (s : List ℕ) → Fitting g s → (w : Which) (p : List ℕ) → length p ≡ g .size → length (emptied w p) ≡ g .size

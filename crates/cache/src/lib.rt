@@ -2,12 +2,11 @@
 ghost use mathlib.Core.Path.{_≡_};
 ghost use mathlib.Core.Bool.{true};
 ghost use mathlib.Core.List.{_++_};
-ghost use Prim.Native.Nat.{_+_, _*_, _≤_};
-ghost use lib.ListN.{length, take};
+ghost use lib.ListN.{length};
 ghost use Rattle.store.specs.Layout.{header, opened, Bounded, Fitting, holds};
 ghost use Rattle.store.specs.Places.{blank};
 ghost use Rattle.cache.specs.Answers.{refusalNumber, makeNumber, lookupNumber, lookupValue, insertNumber, noticeNumber, noticeValue, flushNumber, generationNumber, generationValue};
-ghost use Rattle.cache.specs.Calls.{makeJudged, makeCall, mayHold, placeOf, lookupCall, shown, insertJudged, insertedIn, insertCall, watched, evicted, noticedIn, noticeCall, flushCall, generationCall};
+ghost use Rattle.cache.specs.Calls.{makeJudged, makeCall, mayHold, lookupCall, shown, insertJudged, insertedIn, insertCall, watched, evicted, noticedIn, noticeCall, flushCall, generationCall};
 use block::BlockRecord;
 use block::PAGE;
 use store::Geometry;

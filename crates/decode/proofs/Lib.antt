@@ -1,2 +1,3 @@
--- That each decode call has one outcome.
+-- What the two decode calls share, and that each has one outcome.
+pub mod Answered
 pub mod Once

@@ -1,22 +1,34 @@
--- The two decode calls: document 01's number, and the lent bytes afterwards.
+-- What decoding puts into lent bytes; and the two decode calls: document 01's number, and the lent bytes afterwards.
 -- Assumes nothing.
 use Prim.Native.Nat.{ℕ}
 use mathlib.Core.Bool.{cond}
 use mathlib.Core.List.{List}
 use lib.Dec.{eqb}
 use lib.ListN.{length}
-use Rattle.op.specs.Record.{opRecord}
+use Rattle.bits.specs.Bytes.{patch}
+use Rattle.op.specs.Record.{opFields, opRecord}
 use Rattle.op.specs.declared.Decoded.{Decoded}
 use Rattle.op.specs.declared.Decoded.the-variants.{Some, None}
 use Rattle.word.specs.Word.{rustWord}
 use Rattle.halfword.specs.Halfword.{rustHalf}
+use Rattle.decode.specs.declared.Put.{Put}
+use Rattle.decode.specs.declared.Put.the-variants.{Recorded, Nothing}
 use Rattle.decode.specs.declared.DecodeAnswer.{DecodeAnswer}
 use Rattle.decode.specs.declared.DecodeAnswer.the-variants.{OpWritten, NoOp, WrongOpBuffer}
+
+-- the record of what was decoded, at a place of the bytes, with the op's number
+abbrev pub putOf : Decoded → ℕ → ℕ → ℕ → List ℕ → Put × List ℕ
+putOf (Some op) ilen at pcOff s = (Recorded (opFields op .op), patch s at (opRecord op ilen pcOff))
+putOf None ilen at pcOff s = (Nothing, s)
 
 abbrev pub decodeNumber : DecodeAnswer → ℕ
 decodeNumber OpWritten = 0
 decodeNumber NoOp = 4
 decodeNumber WrongOpBuffer = 6
+
+abbrev pub putNumber : Put → ℕ
+putNumber (Recorded op) = 0
+putNumber Nothing = 4
 
 abbrev pub recordOrNone : Decoded → ℕ → List ℕ → ℕ × List ℕ
 recordOrNone (Some op) ilen lent = (0, opRecord op ilen 0)

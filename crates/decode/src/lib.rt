@@ -1,8 +1,11 @@
-// The two public calls that decode a word or a halfword into a lent op record.
+// Decodes words and halfwords into op records: at a place of lent bytes, for forming, and as the two public calls.
 ghost use mathlib.Core.Path.{_≡_};
 ghost use lib.Dec.{eqb};
+ghost use Prim.Native.Nat.{_+_, _≤_};
 ghost use lib.ListN.{length};
-ghost use Rattle.decode.specs.Call.{decodeNumber, recordOrNone, wordCall, halfCall};
+ghost use Rattle.word.specs.Word.{rustWord};
+ghost use Rattle.halfword.specs.Halfword.{rustHalf};
+ghost use Rattle.decode.specs.Call.{decodeNumber, putOf, putNumber, wordCall, halfCall};
 use op::Decoded;
 use op::OpRecord;
 
@@ -33,25 +36,56 @@ fn is_record(len: usize) -> bool
     len == OpRecord::LEN
 }
 
-// Writes the record of what was decoded.
-fn answer(decoded: Decoded, ilen: u8, lent: &mut [u8]) -> DecodeAnswer
-    requires { ⌜ length (now lent) ≡ 16 ⌝ }
-    ensures { λ r. ⌜ (decodeNumber r, now (lent .exit)) ≡ recordOrNone decoded ilen (now (lent .entry)) ⌝ }
-{
-    let Decoded::Some(op) = decoded else {
-        return DecodeAnswer::NoOp;
-    };
-    op::write_op(lent, 0, op, ilen, 0);
-    DecodeAnswer::OpWritten
+// What was put into lent bytes: a record, whose op number this is, or none.
+pub enum Put {
+    Recorded(u8),
+    Nothing,
 }
 
-// Decodes a word into the lent record of sixteen bytes. The buffer is judged before the word is decoded: then the compiler joins the end of
-// each arm of the decoder with its arm of the writer.
+// The record of what was decoded goes to a place of the lent bytes.
+fn write(decoded: Decoded, ilen: u8, lent: &mut [u8], at: usize, off: u16) -> Put
+    requires { ⌜ at + 16 ≤ length (now lent) ⌝ }
+    ensures { λ r. ⌜ (r, now (lent .exit)) ≡ putOf decoded ilen at off (now (lent .entry)) ⌝ }
+{
+    let Decoded::Some(op) = decoded else {
+        return Put::Nothing;
+    };
+    op::write_op(lent, at, op, ilen, off);
+    Put::Recorded(op::fields_of(op).op)
+}
+
+// Decodes a word and writes its record. Decoder and writer stand in one function, for forming and for the call below: then the compiler joins the end
+// of each arm of the decoder with its arm of the writer.
+pub fn put_word(raw: u32, lent: &mut [u8], at: usize, off: u16) -> Put
+    requires { ⌜ at + 16 ≤ length (now lent) ⌝ }
+    ensures { λ r. ⌜ (r, now (lent .exit)) ≡ putOf (rustWord raw) 4 at off (now (lent .entry)) ⌝ }
+{
+    write(word::decode_full(raw), 4, lent, at, off)
+}
+
+// Decodes a halfword and writes its record.
+pub fn put_halfword(raw: u16, lent: &mut [u8], at: usize, off: u16) -> Put
+    requires { ⌜ at + 16 ≤ length (now lent) ⌝ }
+    ensures { λ r. ⌜ (r, now (lent .exit)) ≡ putOf (rustHalf raw) 2 at off (now (lent .entry)) ⌝ }
+{
+    write(halfword::decode_compressed(raw), 2, lent, at, off)
+}
+
+fn answer(was: Put) -> DecodeAnswer
+    ensures { λ r. ⌜ decodeNumber r ≡ putNumber was ⌝ }
+{
+    match was {
+        Put::Recorded(_) => DecodeAnswer::OpWritten,
+        Put::Nothing => DecodeAnswer::NoOp,
+    }
+}
+
+// Decodes a word into the lent record of sixteen bytes.
 pub fn decode_word(raw: u32, lent: &mut [u8]) -> DecodeAnswer
     ensures { λ r. ⌜ (decodeNumber r, now (lent .exit)) ≡ wordCall raw (now (lent .entry)) ⌝ }
 {
     if is_record(lent.len()) {
-        return answer(word::decode_full(raw), 4, lent);
+        return answer(put_word(raw, lent, 0, 0));
     }
     DecodeAnswer::WrongOpBuffer
 }
@@ -61,7 +95,7 @@ pub fn decode_halfword(raw: u16, lent: &mut [u8]) -> DecodeAnswer
     ensures { λ r. ⌜ (decodeNumber r, now (lent .exit)) ≡ halfCall raw (now (lent .entry)) ⌝ }
 {
     if is_record(lent.len()) {
-        return answer(halfword::decode_compressed(raw), 2, lent);
+        return answer(put_halfword(raw, lent, 0, 0));
     }
     DecodeAnswer::WrongOpBuffer
 }

@@ -13,9 +13,7 @@ use Rattle.op.specs.declared.Op.{Op}
 use Rattle.op.specs.declared.Op.the-variants.{Fallback}
 use Rattle.op.specs.declared.Decoded.{Decoded}
 use Rattle.op.specs.declared.Decoded.the-variants.{Some, None}
-use Rattle.form.specs.Forming.{Reading, stopsBlock, halfFetched, wordFetched, fetched}
-use Rattle.form.specs.declared.Fetched.{Fetched}
-use Rattle.form.specs.declared.Fetched.the-variants.{Kept, Stop}
+use Rattle.form.specs.Forming.{Reading, stopsBlock, halfFetched, wordFetched, fetched, Fetched, Kept, Stop}
 
 module _ (P : Fetched → Type 0) (stop : P Stop) where
   half-case : (d : Decoded) → ((op : Op) → d ≡ Some op → P (Kept op 2)) → P (halfFetched d)

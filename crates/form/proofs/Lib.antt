@@ -5,3 +5,4 @@ pub mod Once
 pub mod Page
 pub mod Seal
 pub mod Sound
+pub mod Taken

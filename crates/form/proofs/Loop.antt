@@ -2,7 +2,7 @@
 -- Assumes nothing.
 use mathlib.Core.Path.{_≡_, refl, sym, ap, _∙_}
 use mathlib.Core.Bool.{cond}
-use mathlib.Core.List.{List, [], _∷_, _++_}
+use mathlib.Core.List.{List, [], _∷_}
 use Prim.Native.Nat.{ℕ, suc, _+_, _-_, _*_, _≤_, _<_}
 use native.Mathlib.Omega.{arith}
 use lib.ListN.{length}
@@ -12,9 +12,8 @@ use Rattle.op.specs.Record.{opRecord}
 use Rattle.op.specs.declared.Op.{Op}
 use Rattle.op.proofs.Record.{length-record}
 use Rattle.block.specs.Record.{Insn, insn, opRecords, byteLen}
-use Rattle.form.specs.Forming.{Reading, endsBlock, fetched, opsFrom}
+use Rattle.form.specs.Forming.{Reading, endsBlock, fetched, opsFrom, Kept, Stop}
 use Rattle.form.specs.Written.{Written}
-use Rattle.form.specs.declared.Fetched.the-variants.{Kept, Stop}
 
 module _ (r : Reading) (s : List ℕ) (n at : ℕ) where
   pub ops-full : 64 ≤ n → opsFrom r s (64 - n) at ≡ []

@@ -9,7 +9,7 @@ use lib.Seq.{length-take-le, take-at, drop-at}
 use borrow.Rule.Slice.PartMut.{midOf, mid-len, putMid}
 use Rattle.bits.specs.Bytes.{patch}
 use Rattle.bits.proofs.Bytes.{length-patch, patch-nothing}
-use Rattle.block.specs.Record.{Insn, headBytes, opRecords, byteLen, blockRecord}
+use Rattle.block.specs.Record.{Insn, headBytes, opRecords, blockRecord}
 use Rattle.block.proofs.Records.{length-op-records}
 use Rattle.form.specs.Call.{recordOrNone}
 use Rattle.form.specs.Written.{Written}

@@ -9,11 +9,9 @@ use lib.Dec.{eqb}
 use lib.ListN.{length, getD, take, drop, replicate, length-take, length-drop}
 use lib.Seq.{getD-drop}
 use borrow.Author.Tests.{eq-eqb}
-use Rattle.bits.specs.Bytes.{wordAt}
-use Rattle.op.specs.Record.{opFields, opRecord}
+use Rattle.op.specs.Record.{opFields}
 use Rattle.op.specs.WellFormed.{ilenKnown}
 use Rattle.op.specs.declared.Op.{Op}
-use Rattle.op.specs.declared.Op.the-variants.{Lui, Auipc, AluImm, AluReg, Load, Store, Branch, Jal, Jalr, Fallback}
 use Rattle.op.specs.declared.Decoded.the-variants.{Some}
 use Rattle.op.proofs.Proper.{Proper, proper-well}
 use Rattle.word.proofs.Read.{word-op}
@@ -24,9 +22,7 @@ use Rattle.block.specs.WellFormed.{allZero, jumps, opsWellFormed, wellFormed}
 use Rattle.block.proofs.Places.{Geometry, geometry, held}
 use Rattle.block.proofs.Records.{walk-record, record-well}
 use Rattle.block.proofs.Zeros.{zero-all}
-use Rattle.form.specs.Forming.{Reading, rust, endsBlock, fetched, andThen, opsFrom, formed}
-use Rattle.form.specs.declared.Fetched.{Fetched}
-use Rattle.form.specs.declared.Fetched.the-variants.{Kept, Stop}
+use Rattle.form.specs.Forming.{Reading, rust, endsBlock, fetched, andThen, opsFrom, formed, Fetched, Kept, Stop}
 use Rattle.form.proofs.Kept.{fetched-by, Within, within}
 
 -- a reading that gives proper ops, and never a Fallback
@@ -48,18 +44,6 @@ module _ (r : Reading) (sound : Sound r) (s : List ℕ) (byte : (i : ℕ) → ge
       (λ h op e. let o = sound .halves _ op e in (o .1, rw (o .0)))
       (λ h op e. (sound .words _ op e .1, refl))
       (λ h. (omega (arith, byte at, byte (at + 1), byte (at + 2), byte (at + 2 + 1)), refl))
-
-ends-jumps : (op : Op) → endsBlock op ≡ jumps (opFields op .op)
-ends-jumps (Lui rd imm) = refl
-ends-jumps (Auipc rd imm) = refl
-ends-jumps (AluImm kind rd rs1 imm) = refl
-ends-jumps (AluReg kind rd rs1 rs2) = refl
-ends-jumps (Load kind rd rs1 imm) = refl
-ends-jumps (Store kind rs1 rs2 imm) = refl
-ends-jumps (Branch kind rs1 rs2 offset) = refl
-ends-jumps (Jal rd offset) = refl
-ends-jumps (Jalr rd rs1 imm) = refl
-ends-jumps (Fallback raw) = refl
 
 -- what holds of the ops from an offset on
 record Run (s : List ℕ) (n at : ℕ) (ops : List Insn) : Type 0 where
@@ -94,7 +78,7 @@ module _ (s : List ℕ) (fits : length s ≤ 4096) (n at : ℕ) (inside : at ≤
   op-run : (op : Op) (ilen : ℕ) → Well (Kept op ilen) → Within s at (Kept op ilen) → (b : Bool) → endsBlock op ≡ b → Run s (suc n) at (insn op ilen ∷ cond b [] (next ilen))
   op-run op ilen w i true e = one-more s fits n at inside op ilen [] w i refl (no-more s fits n (at + ilen) (i .0) n)
   op-run op ilen w i false e =
-      one-more s fits n at inside op ilen (next ilen) w i (rw (sym (ends-jumps op) ∙ e) (or-true (eqb (length (next ilen)) 0))) (later ilen (i .0))
+      one-more s fits n at inside op ilen (next ilen) w i (rw e (or-true (eqb (length (next ilen)) 0))) (later ilen (i .0))
 
   then-run : (f : Fetched) → Well f → Within s at f → Run s (suc n) at (andThen f next)
   then-run Stop w i = no-more s fits n at inside (suc n)

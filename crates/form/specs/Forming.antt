@@ -1,13 +1,14 @@
 -- Forming, as `decode_block` of block.rs: the ops of a block, from the bytes from its address to the end of the page, in any reading.
 -- Assumes nothing.
 use Prim.Native.Nat.{ℕ, zero, suc, _+_, _%_}
-use mathlib.Core.Bool.{Bool, true, false, cond, _&&_, _||_}
+use mathlib.Core.Bool.{Bool, cond, _&&_, _||_}
 use mathlib.Core.List.{List, [], _∷_}
 use lib.Dec.{eqb, ltb}
 use lib.ListN.{length}
 use Rattle.bits.specs.Bytes.{halfwordAt, wordAt}
 use Rattle.op.specs.declared.Op.{Op}
-use Rattle.op.specs.declared.Op.the-variants.{Lui, Auipc, AluImm, AluReg, Load, Store, Branch, Jal, Jalr, Fallback}
+use Rattle.op.specs.Record.{opFields}
+use Rattle.op.specs.declared.Op.the-variants.{Fallback}
 use Rattle.op.specs.declared.Decoded.{Decoded}
 use Rattle.op.specs.declared.Decoded.the-variants.{Some, None}
 use Rattle.word.specs.Instruction.{opcode, funct3}
@@ -15,8 +16,7 @@ use Rattle.word.specs.Word.{rustWord}
 use Rattle.halfword.specs.Halfword.{rustHalf}
 use Rattle.block.specs.Memory.{restOfPage}
 use Rattle.block.specs.Record.{Insn, insn}
-use Rattle.form.specs.declared.Fetched.{Fetched}
-use Rattle.form.specs.declared.Fetched.the-variants.{Kept, Stop}
+use Rattle.block.specs.WellFormed.{jumps}
 
 -- a reading is two decoders
 pub record Reading : Type 0 where
@@ -30,17 +30,14 @@ rust = record { ofWord = rustWord; ofHalf = rustHalf }
 abbrev pub stopsBlock : ℕ → Bool
 stopsBlock raw = (eqb (opcode raw) 0x73 && eqb (funct3 raw) 0) || (eqb (opcode raw) 0x0f && eqb (funct3 raw) 1)
 
+-- Jal and Jalr
 abbrev pub endsBlock : Op → Bool
-endsBlock (Lui rd imm) = false
-endsBlock (Auipc rd imm) = false
-endsBlock (AluImm kind rd rs1 imm) = false
-endsBlock (AluReg kind rd rs1 rs2) = false
-endsBlock (Load kind rd rs1 imm) = false
-endsBlock (Store kind rs1 rs2 imm) = false
-endsBlock (Branch kind rs1 rs2 offset) = false
-endsBlock (Jal rd offset) = true
-endsBlock (Jalr rd rs1 imm) = true
-endsBlock (Fallback raw) = false
+endsBlock op = jumps (opFields op .op)
+
+-- what stands at an offset of a page: an op and its length, or what no block goes past
+pub data Fetched : Type 0 where
+  Kept : Op → ℕ → Fetched
+  Stop : Fetched
 
 abbrev pub halfFetched : Decoded → Fetched
 halfFetched (Some op) = Kept op 2
@@ -50,7 +47,7 @@ abbrev pub wordFetched : ℕ → Decoded → Fetched
 wordFetched raw (Some op) = Kept op 4
 wordFetched raw None = cond (stopsBlock raw) Stop (Kept (Fallback raw) 4)
 
--- what stands at an offset of s, the bytes up to the end of the page
+-- at an offset of s, the bytes up to the end of the page
 unfoldable pub fetched : Reading → List ℕ → ℕ → Fetched
 fetched reading s at =
     cond (ltb (length s) (at + 2)) Stop

@@ -4,19 +4,19 @@ ghost use Prim.Native.Nat.{_+_, _≤_};
 ghost use lib.ListN.{length};
 ghost use Rattle.word.specs.Word.{rustWord};
 ghost use Rattle.halfword.specs.Halfword.{rustHalf};
-ghost use Rattle.form.specs.Forming.{rust, stopsBlock, endsBlock, halfFetched, wordFetched, fetched, opsFrom};
-ghost use Rattle.form.specs.Written.{Written};
+ghost use Rattle.form.specs.Forming.{rust, stopsBlock, halfFetched, wordFetched, fetched, opsFrom};
+ghost use Rattle.form.specs.Written.{taken, Written};
 ghost use Rattle.form.specs.Call.{formNumber, recordOrNone, formCall};
 use block::BlockRecord;
-use op::Decoded;
+use decode::Put;
 use op::Op;
 use op::OpRecord;
 use word::instruction::Instruction;
 
-// What stands at an offset of a page: an op and its length, or what no block goes past.
-pub enum Fetched {
-    Kept(Op, u8),
-    Stop,
+// What the loop took at an offset of a page: the number and the length of an op, whose record is written, or nothing, where no block goes on.
+pub enum Step {
+    Took(u8, u8),
+    Stopped,
 }
 
 fn stops_block(raw: u32) -> bool
@@ -34,61 +34,48 @@ fn stops_block(raw: u32) -> bool
     false
 }
 
-fn ends_block(op: Op) -> bool
-    ensures { λ r. ⌜ r ≡ endsBlock op ⌝ }
+fn fetch_halfword(raw: u16, lent: &mut [u8], place: usize, off: u16) -> Step
+    requires { ⌜ place + 16 ≤ length (now lent) ⌝ }
+    ensures { λ r. ⌜ (r, now (lent .exit)) ≡ taken place off (halfFetched (rustHalf raw)) (now (lent .entry)) ⌝ }
 {
-    match op {
-        Op::Lui { .. } => false,
-        Op::Auipc { .. } => false,
-        Op::AluImm { .. } => false,
-        Op::AluReg { .. } => false,
-        Op::Load { .. } => false,
-        Op::Store { .. } => false,
-        Op::Branch { .. } => false,
-        Op::Jal { .. } => true,
-        Op::Jalr { .. } => true,
-        Op::Fallback { .. } => false,
-    }
-}
-
-fn fetch_halfword(raw: u16) -> Fetched
-    ensures { λ r. ⌜ r ≡ halfFetched (rustHalf raw) ⌝ }
-{
-    let decoded = halfword::decode_compressed(raw);
-    let Decoded::Some(op) = decoded else {
-        return Fetched::Stop; // no Fallback of two bytes
+    let put = decode::put_halfword(raw, lent, place, off);
+    let Put::Recorded(op) = put else {
+        return Step::Stopped; // no Fallback of two bytes
     };
-    Fetched::Kept(op, 2)
+    Step::Took(op, 2)
 }
 
-fn fetch_word(raw: u32) -> Fetched
-    ensures { λ r. ⌜ r ≡ wordFetched raw (rustWord raw) ⌝ }
+fn fetch_word(raw: u32, lent: &mut [u8], place: usize, off: u16) -> Step
+    requires { ⌜ place + 16 ≤ length (now lent) ⌝ }
+    ensures { λ r. ⌜ (r, now (lent .exit)) ≡ taken place off (wordFetched raw (rustWord raw)) (now (lent .entry)) ⌝ }
 {
-    let decoded = word::decode_full(raw);
-    let Decoded::Some(op) = decoded else {
+    let put = decode::put_word(raw, lent, place, off);
+    let Put::Recorded(op) = put else {
         if stops_block(raw) {
-            return Fetched::Stop;
+            return Step::Stopped;
         }
-        return Fetched::Kept(Op::Fallback { raw }, 4);
+        op::write_op(lent, place, Op::Fallback { raw }, 4, off);
+        return Step::Took(9, 4);
     };
-    Fetched::Kept(op, 4)
+    Step::Took(op, 4)
 }
 
-fn fetch(s: &[u8], at: usize) -> Fetched
-    requires { ⌜ at ≤ 4096 ⌝ }
-    ensures { λ r. ⌜ r ≡ fetched rust (now (s .entry)) at ⌝ }
+// Reads what stands at an offset of s, and writes its record to a place of the lent one.
+fn fetch(s: &[u8], at: usize, lent: &mut [u8], place: usize) -> Step
+    requires { ⌜ (at ≤ 4096) × (place + 16 ≤ length (now lent)) ⌝ }
+    ensures { λ r. ⌜ (r, now (lent .exit)) ≡ taken place at (fetched rust (now (s .entry)) at) (now (lent .entry)) ⌝ }
 {
     if s.len() < at + 2 {
-        return Fetched::Stop;
+        return Step::Stopped;
     }
     let low = bits::halfword_at(s, at);
     if low % 4 == 3 {
         if s.len() < at + 4 {
-            return Fetched::Stop;
+            return Step::Stopped;
         }
-        return fetch_word(bits::word_at(s, at));
+        return fetch_word(bits::word_at(s, at), lent, place, at as u16);
     }
-    fetch_halfword(low)
+    fetch_halfword(low, lent, place, at as u16)
 }
 
 // The ops of the block whose bytes start s, each through its part of the lent record; its other bytes stay.
@@ -99,20 +86,13 @@ fn form_ops(s: &[u8], lent: &mut [u8]) -> BlockRecord
     let mut count = 0;
     let mut at = 0;
     while count < BlockRecord::MAX_OPS {
-        let fetched = fetch(s, at);
-        let Fetched::Kept(op, ilen) = fetched else {
+        let step = fetch(s, at, lent, BlockRecord::HEAD + count * OpRecord::LEN);
+        let Step::Took(op, ilen) = step else {
             return BlockRecord { count, len: at };
         };
-        op::write_op(
-            lent,
-            BlockRecord::HEAD + count * OpRecord::LEN,
-            op,
-            ilen,
-            at as u16,
-        );
         count += 1;
         at += ilen as usize;
-        if ends_block(op) {
+        if block::jumps(op) {
             return BlockRecord { count, len: at };
         }
     }

@@ -9,7 +9,7 @@ ghost use Rattle.bits.specs.Match.{case};
 ghost use Rattle.op.specs.declared.AluKind.the-variants.{Srl, Sra, And};
 ghost use Rattle.op.specs.declared.Decoded.the-variants.{None};
 ghost use Rattle.halfword.specs.Halfword.{nzuimmAddi4spn, uimmLw, uimmLd, imm6, immAddi16sp, immLui, offJ, offB, uimmLwsp, uimmLdsp, uimmSwsp, uimmSdsp};
-ghost use Rattle.halfword.specs.Halfword.{primeReg, primeRows, primeImm, miscRows, halfAt, rustHalf};
+ghost use Rattle.halfword.specs.Halfword.{primeReg, primeRows, primeImm, halfAt, rustHalf};
 use instruction::CompressedInstruction;
 use op::AluKind;
 use op::BranchKind;

@@ -1,7 +1,7 @@
 -- The slots that a history's notices examine are at most n for each accepted insertion: each touch that examines any uses up an insertion.
 -- Assumes nothing.
 use mathlib.Core.Path.{_≡_, refl, sym, _∙_}
-use mathlib.Core.Bool.{Bool, true, false, cond, _&&_, _||_, not, true≢false, false≢true}
+use mathlib.Core.Bool.{Bool, true, false, cond, _&&_, _||_, not, false≢true}
 use mathlib.Core.List.{List, [], _∷_}
 use Prim.Native.Nat.{ℕ, suc, _+_, _*_, _≤_}
 use native.Mathlib.Omega.{arith}
@@ -9,7 +9,7 @@ use native.Mathlib.Nat.{mul-zero, mul-suc, mul-le-mul-left}
 use borrow.Author.Tests.{eqb-true, eqb-false}
 use lib.Dec.{eqb}
 use lib.ListN.{length}
-use Rattle.history.specs.History.{Event, inserted, touched, flushed, insertions, marked, examined, total}
+use Rattle.history.specs.History.{Event, inserted, touched, flushed, insertions, marked, total}
 
 -- the pages of the insertions since their last touch, each as often as it had one
 without : ℕ → List ℕ → List ℕ

@@ -1,17 +1,21 @@
 -- The recursive definitions say what demand 3's sentences say.
 -- Assumes nothing.
-use mathlib.Core.Path.{_≡_, refl, sym, ap, _∙_}
-use mathlib.Core.Bool.{Bool, true, false, cond, _&&_, _||_, not, true≢false, false≢true}
+use mathlib.Core.Path.{_≡_, refl, ap, subst}
+use mathlib.Core.Bool.{Bool, true, false, cond, _&&_, _||_, not, false≢true}
 use mathlib.Core.List.{List, [], _∷_, _++_}
-use mathlib.Core.Option.{Option, none, some}
+use mathlib.Core.Option.{none, some}
 use Prim.Native.Nat.{ℕ}
 use native.Mathlib.Omega.{arith}
 use borrow.Author.Tests.{eqb-true, eqb-false, eq-eqb, ne-eqb}
 use lib.Dec.{eqb}
 use Rattle.history.specs.History.{Event, inserted, touched, flushed, Every, none-left, and-then, shown, marked, Harmless, Lives, Quiet, Marked}
 
-no-some : {A : Type 0} (r : List ℕ) → none ≡ some r → A
+pub no-some : {A : Type 0} (r : List ℕ) → none ≡ some r → A
 no-some r e = absurd (let z : _≡_ {A = ℕ} 0 1 = cc in omega arith)
+
+among : (P : Event → Type 0) (since before : List Event) (e : Event) → Every P (since ++ e ∷ before) → P e
+among P [] before e (and-then p l) = p
+among P (x ∷ since) before e (and-then p l) = among P since before e l
 
 module _ (slot page : ℕ → ℕ) where
   later : (e : Event) (h : List Event) (a : ℕ) (r : List ℕ) → Harmless slot page a e → Lives slot page h a r → Lives slot page (e ∷ h) a r
@@ -77,3 +81,6 @@ module _ (slot page : ℕ → ℕ) where
 
   pub is-marked : (h : List Event) (p : ℕ) → Marked slot page h p → marked slot page h p ≡ true
   is-marked h p m = rw (m .is) (stays (m .since) (m .before) (m .a) p (m .r) (m .in-page) (m .safe))
+
+  pub shown-was : (P : Event → Type 0) (h : List Event) → Every P h → (a : ℕ) (r : List ℕ) → shown slot page h a ≡ some r → P (inserted a r)
+  shown-was P h l a r e = let w = shown-lives h a r e in among P (w .since) (w .before) (inserted a r) (subst (Every P) (w .is) l)

@@ -1,6 +1,6 @@
 // Writes the blocks of one page to standard output, as document 01's listing has them.
 ghost use mathlib.Core.Path.{_≡_};
-ghost use Prim.Native.Nat.{_+_, _*_, _≤_, _<_};
+ghost use Prim.Native.Nat.{_<_};
 ghost use lib.ListN.{length};
 use block::BlockRecord;
 use form::FormAnswer;
@@ -9,7 +9,7 @@ use libc::STDOUT_FILENO;
 use op::OpRecord;
 
 // A number and the byte after it.
-fn number(n: u64, after: u8) {
+pub fn number(n: u64, after: u8) {
     io::print_decimal(STDOUT_FILENO, n);
     io::write_all(STDOUT_FILENO, &[after]);
 }

@@ -7,7 +7,7 @@ use mathlib.Core.List.{List, [], _∷_}
 use lib.Dec.{eqb}
 use lib.IntN.{pos}
 use Rattle.bits.specs.Bits.{signed}
-use Rattle.bits.specs.Match.{Row, _⇒_, case}
+use Rattle.bits.specs.Match.{_⇒_, case}
 use Rattle.op.specs.declared.AluKind.{AluKind}
 use Rattle.op.specs.declared.LoadKind.{LoadKind}
 use Rattle.op.specs.declared.StoreKind.{StoreKind}

@@ -1,8 +1,9 @@
 -- A kind is found by its number, whatever would stand behind the last one.
 -- Assumes nothing.
 use mathlib.Core.Path.{_≡_, refl}
+use mathlib.Core.List.{List, [], _∷_}
 use lib.ListN.{getD}
-use Rattle.op.specs.Kinds.{aluNumber, aluKinds, loadNumber, loadKinds, storeNumber, storeKinds, branchNumber, branchKinds}
+use Rattle.op.specs.Kinds.{aluNumber, aluKinds, loadNumber, storeNumber, branchNumber}
 use Rattle.op.specs.declared.AluKind.{AluKind}
 use Rattle.op.specs.declared.AluKind.the-variants.{Add, Sub, Sll, Slt, Sltu, Xor, Srl, Sra, Or, And, Addw, Subw, Sllw, Srlw, Sraw, Mul, Mulh, Mulhsu, Mulhu, Div, Divu, Rem, Remu, Mulw, Divw, Divuw, Remw, Remuw, Andn, Orn, Xnor, Rol, Ror, Rolw, Rorw, Min, Max, Minu, Maxu, Clz, Ctz, Cpop, Clzw, Ctzw, Cpopw, SextB, SextH, ZextH, Rev8, OrcB, Sh1add, Sh2add, Sh3add, AddUw, Sh1addUw, Sh2addUw, Sh3addUw, SlliUw}
 use Rattle.op.specs.declared.LoadKind.{LoadKind}
@@ -72,6 +73,10 @@ alu-at Sh2addUw d = refl
 alu-at Sh3addUw d = refl
 alu-at SlliUw d = refl
 
+-- the other kinds, as `aluKinds` has the ALU's
+abbrev pub loadKinds : List LoadKind
+loadKinds = Lb ∷ Lbu ∷ Lh ∷ Lhu ∷ Lw ∷ Lwu ∷ Ld ∷ []
+
 pub load-at : (k d : LoadKind) → getD loadKinds (loadNumber k) d ≡ k
 load-at Lb d = refl
 load-at Lbu d = refl
@@ -81,11 +86,17 @@ load-at Lw d = refl
 load-at Lwu d = refl
 load-at Ld d = refl
 
+abbrev pub storeKinds : List StoreKind
+storeKinds = Sb ∷ Sh ∷ Sw ∷ Sd ∷ []
+
 pub store-at : (k d : StoreKind) → getD storeKinds (storeNumber k) d ≡ k
 store-at Sb d = refl
 store-at Sh d = refl
 store-at Sw d = refl
 store-at Sd d = refl
+
+abbrev pub branchKinds : List BranchKind
+branchKinds = Beq ∷ Bne ∷ Blt ∷ Bge ∷ Bltu ∷ Bgeu ∷ []
 
 pub branch-at : (k d : BranchKind) → getD branchKinds (branchNumber k) d ≡ k
 branch-at Beq d = refl

@@ -11,7 +11,7 @@ use lib.ListN.{length, getD, List·getD-eq-default}
 use borrow.Author.Tests.{le-leb, leb-false}
 use Rattle.bits.specs.Bytes.{le, doublewordAt}
 use Rattle.bits.proofs.Bytes.{doubleword-le}
-use Rattle.op.specs.Kinds.{aluNumber, aluKinds, loadNumber, loadKinds, storeNumber, storeKinds, branchNumber, branchKinds}
+use Rattle.op.specs.Kinds.{aluNumber, aluKinds, loadNumber, storeNumber, branchNumber}
 use Rattle.op.specs.Record.{bits64, opFields, opRecord}
 use Rattle.op.specs.WellFormed.{any, limits, ilenKnown, opWellFormed}
 use Rattle.op.specs.declared.Op.{Op}
@@ -24,7 +24,7 @@ use Rattle.op.specs.declared.StoreKind.{StoreKind}
 use Rattle.op.specs.declared.StoreKind.the-variants.{Sb, Sh}
 use Rattle.op.specs.declared.BranchKind.{BranchKind}
 use Rattle.op.specs.declared.BranchKind.the-variants.{Beq, Bne}
-use Rattle.op.proofs.Numbers.{alu-at, load-at, store-at, branch-at}
+use Rattle.op.proofs.Numbers.{alu-at, loadKinds, load-at, storeKinds, store-at, branchKinds, branch-at}
 
 -- a kind that is found in a list by its number, whatever would stand behind the list's end, has a number of the list
 module _ {A : Type 0} (kinds : List A) (number : A → ℕ) (a b : A) (differ : number a ≡ number b → ⊥) (found : (k d : A) → getD kinds (number k) d ≡ k) where

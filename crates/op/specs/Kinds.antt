@@ -103,18 +103,3 @@ aluKinds =
     ∷ Ctz ∷ Cpop ∷ Clzw ∷ Ctzw ∷ Cpopw ∷ SextB ∷ SextH ∷ ZextH ∷ Rev8 ∷ OrcB
     ∷ Sh1add ∷ Sh2add ∷ Sh3add ∷ AddUw ∷ Sh1addUw ∷ Sh2addUw ∷ Sh3addUw ∷ SlliUw
     ∷ []
-
-abbrev pub loadKinds : List LoadKind
-loadKinds =
-    Lb ∷ Lbu ∷ Lh ∷ Lhu ∷ Lw ∷ Lwu ∷ Ld
-    ∷ []
-
-abbrev pub storeKinds : List StoreKind
-storeKinds =
-    Sb ∷ Sh ∷ Sw ∷ Sd
-    ∷ []
-
-abbrev pub branchKinds : List BranchKind
-branchKinds =
-    Beq ∷ Bne ∷ Blt ∷ Bge ∷ Bltu ∷ Bgeu
-    ∷ []

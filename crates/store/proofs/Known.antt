@@ -1,21 +1,20 @@
 -- What the header check tells of a store, and each of its tests in a record.
 -- Assumes nothing.
-use mathlib.Core.Path.{_≡_, refl, sym, ap, subst, _∙_}
-use mathlib.Core.Bool.{Bool, true, false, cond, _&&_}
+use mathlib.Core.Path.{_≡_, refl, subst, _∙_}
+use mathlib.Core.Bool.{Bool, true, false, cond}
 use mathlib.Core.List.{List}
-use Prim.Native.Nat.{ℕ, suc, _+_, _-_, _*_, _/_, _%_, _^_, _≤_, _<_}
+use Prim.Native.Nat.{ℕ, suc, _+_, _*_, _/_, _%_, _^_, _≤_, _<_}
 use native.Mathlib.Omega.{arith}
 use native.Mathlib.Nat.{one-mul, mod-lt, mul-suc, mul-le-mul, mul-le-mul-left}
-use lib.Dec.{eqb, leb, ltb}
+use lib.Dec.{eqb, leb}
 use lib.ListN.{length, getD}
 use lib.Pow.{pow-pos, pow-mono, shl-exact}
-use borrow.Author.Tests.{leb-true, ltb-true, eqb-true, le-leb, lt-ltb, eq-eqb}
+use borrow.Author.Tests.{leb-true, ltb-true, eqb-true, le-leb, eq-eqb}
 use Rattle.bits.specs.Bytes.{doublewordAt}
-use Rattle.block.specs.Memory.{goodMemory}
-use Rattle.bits.proofs.Tests.{and-both, not-true, true-false}
+use Rattle.block.proofs.Places as block
+use Rattle.bits.proofs.Tests.{and-both, not-true}
 use Rattle.store.specs.Layout.{signature, inBounds, front, storeSize, geometry, stated, isStore, opened, Bounded, Fitting, holds, pageOf, slotOf, placeAt}
 use Rattle.store.specs.declared.Geometry.{Geometry}
-use Rattle.store.specs.declared.Opened.{Opened}
 use Rattle.store.specs.declared.Opened.the-variants.{Sound, NotAStore}
 
 -- a 1 shifted within the width
@@ -31,20 +30,14 @@ signature-is e = omega arith
 
 pub bounds-are : (e base pages : ℕ) → inBounds e base pages ≡ true → Bounded (geometry e base pages)
 bounds-are e base pages h =
-    let size = 4096 * pages in
     let a = and-both (leb e 14) _ h in
-    let b = and-both _ (leb (base + size) (2 ^ 56)) (a .1) in
-    let c = and-both _ (leb size (65536 * 4096)) (b .0) in
-    let d = and-both _ (leb 4096 size) (c .0) in
-    let f = and-both (eqb (size % 4096) 0) (eqb (base % 4096) 0) (d .0) in
-    let some : 4096 ≤ 4096 * pages = leb-true _ _ (d .1) in
-    let most : 4096 * pages ≤ 65536 * 4096 = leb-true _ _ (c .1) in
+    let memory = block.geometry {size = 4096 * pages} {base = base} (a .1) in
     record {
       few = leb-true _ _ (a .0);
-      some = omega arith;
-      most = omega arith;
-      aligned = eqb-true _ _ (f .1);
-      below = leb-true _ _ (b .1);
+      some = omega (arith, memory .least);
+      most = omega (arith, memory .most);
+      aligned = memory .based;
+      below = memory .top;
       room = omega arith;
       small = omega arith;
     }

@@ -2,20 +2,19 @@
 -- Assumes nothing.
 use mathlib.Core.Path.{_≡_, refl, sym, ap, _∙_}
 use mathlib.Core.Bool.{Bool, true, false, cond}
-use mathlib.Core.List.{List, [], _∷_, _++_, append-assoc, append-nil}
-use Prim.Native.Nat.{ℕ, zero, suc, _+_, _-_, _*_, _^_, _≤_, _<_}
+use mathlib.Core.List.{List, _++_, append-assoc, append-nil}
+use Prim.Native.Nat.{ℕ, zero, suc, _+_, _-_, _*_, _^_, _≤_}
 use native.Mathlib.Omega.{arith}
-use native.Mathlib.Nat.{mul-suc, mul-zero, add-zero, add-assoc}
+use native.Mathlib.Nat.{mul-suc, mul-zero, add-zero}
 use lib.ListN.{length, take, drop, replicate, length-append, length-take, length-drop, length-replicate, take-append-drop, drop-of-length-le, replicate-append-replicate}
-use lib.Seq.{drop-drop, take-at, drop-at, take-append-le}
+use lib.Seq.{drop-drop, take-at}
 use Rattle.bits.specs.Bytes.{le, part, patch, doublewordAt}
 use Rattle.bits.proofs.Bytes.{length-le, length-patch, length-part, le-zero, le-cons, patch-behind, patch-append}
-use Rattle.store.specs.Layout.{signature, header, front, storeSize, Fitting}
+use Rattle.store.specs.Layout.{signature, header, front, Fitting}
 use Rattle.store.specs.Places.{emptyPlace, concerns, emptied, eachPlace, copies, blank}
-use Rattle.store.proofs.Known.{signature-is}
 use Rattle.store.specs.declared.Geometry.{Geometry}
 use Rattle.store.specs.declared.Which.{Which}
-use Rattle.store.specs.declared.Which.the-variants.{EveryPlace, OnPage}
+use Rattle.store.specs.declared.Which.the-variants.{EveryPlace}
 
 -- zeros with eight bytes of 255 over them
 pub empty-made : (z : ℕ) → 8 ≤ z → patch (replicate z 0) 0 (le 8 0xFFFF_FFFF_FFFF_FFFF) ≡ emptyPlace z

@@ -13,7 +13,7 @@ use lib.Dec.{eqb, leb, ltb, lit<}
 use lib.ListN.{length, getD, set, take, drop, replicate, length-append, length-replicate, getD-replicate, List·getD-append}
 use lib.Pow.{pow-pos}
 use lib.Seq.{ext-getD, set-split, getD-append-add, getD-take, take-at, drop-at, drop-drop, length-take-le}
-use borrow.Author.Tests.{eqb-true, eqb-false, eq-eqb, ne-eqb, lt-ltb, le-ltb}
+use borrow.Author.Tests.{eqb-true, eqb-false, ne-eqb, lt-ltb, le-ltb}
 use Rattle.bits.specs.Bits.{bit}
 use Rattle.bits.proofs.Bit.{bit-above}
 use Rattle.bits.specs.Bytes.{le, part, patch, doublewordAt}
@@ -33,13 +33,13 @@ placeIn g s i = part s (placeAt g i) (g .size)
 
 -- one byte of a list with a part replaced
 module _ (s : List ℕ) (at : ℕ) (p : List ℕ) (f : at + length p ≤ length s) where
-  byte-before : (k : ℕ) → k < at → getD (patch s at p) k 0 ≡ getD s k 0
+  pub byte-before : (k : ℕ) → k < at → getD (patch s at p) k 0 ≡ getD s k 0
   byte-before k h = ap (λ (n : ℕ). getD (patch s at p) n 0) zero-end ∙ sym (getD-part (patch s at p) k 1 0 (omega arith)) ∙ ap (λ (l : List ℕ). getD l 0 0) (part-before s at p k 1 f (omega arith)) ∙ getD-part s k 1 0 (omega arith) ∙ ap (λ (n : ℕ). getD s n 0) (sym zero-end)
     where
       zero-end : k ≡ k + 0
       zero-end = omega arith
 
-  byte-behind : (k : ℕ) → at + length p ≤ k → getD (patch s at p) k 0 ≡ getD s k 0
+  pub byte-behind : (k : ℕ) → at + length p ≤ k → getD (patch s at p) k 0 ≡ getD s k 0
   byte-behind k h = ap (λ (n : ℕ). getD (patch s at p) n 0) zero-end ∙ sym (getD-part (patch s at p) k 1 0 (omega arith)) ∙ ap (λ (l : List ℕ). getD l 0 0) (part-behind s at p k 1 f h) ∙ getD-part s k 1 0 (omega arith) ∙ ap (λ (n : ℕ). getD s n 0) (sym zero-end)
     where
       zero-end : k ≡ k + 0
@@ -321,7 +321,7 @@ module _ (g : Geometry) (s : List ℕ) (f : Fitting g s) where
 
 -- a new store
 module _ (e base pages : ℕ) (w : inBounds e base pages ≡ true) where
-  header-long : length (header (geometry e base pages) 1) ≡ 32
+  pub header-long : length (header (geometry e base pages) 1) ≡ 32
   header-long = simp (length-append, length-le)
 
   pub opened-made : opened (header (geometry e base pages) 1 ++ blank (geometry e base pages)) ≡ Sound (geometry e base pages)

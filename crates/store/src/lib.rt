@@ -2,14 +2,19 @@
 ghost use mathlib.Core.Path.{_≡_};
 ghost use mathlib.Core.Bool.{true};
 ghost use mathlib.Core.List.{_++_};
-ghost use Prim.Native.Nat.{_+_, _-_, _*_, _/_, _%_, _^_, _≤_, _<_};
+ghost use Prim.Native.Nat.{_+_, _-_, _*_, _/_, _^_, _≤_, _<_};
 ghost use lib.ListN.{length, take, replicate};
 ghost use Rattle.bits.specs.Bytes.{part, patch};
-ghost use Rattle.store.specs.Layout.{header, inBounds, front, storeSize, geometry, opened, Bounded, Fitting, holds, pageOf, slotOf, placeAt, generationOf, bumped};
+ghost use Rattle.store.specs.Layout.{header, inBounds, front, storeSize, geometry, opened, Bounded, Fitting, holds, pageOf, slotOf, placeAt, bumped};
 ghost use Rattle.store.specs.Places.{pageBit, putBit, withBit, emptyPlace, concerns, emptied, eachPlace, blank};
 use block::MAX_PAGES;
 use block::PAGE;
 use block::Slot;
+
+// The header's first eight bytes as a number: "VBC", a zero, version 1; then e, and a zero.
+const SIGNATURE: u64 = 0x1_0043_4256;
+
+const E_UNIT: u64 = 0x1_0000_0000_0000;
 
 // What a store's header says.
 pub struct Geometry {
@@ -113,7 +118,7 @@ pub fn open(store: &[u8]) -> Opened
     let e = store[6] as u64;
     let base = bits::doubleword_at(store, 8);
     let pages = bits::doubleword_at(store, 16);
-    if bits::doubleword_at(store, 0) != 0x1_0043_4256 + e * 0x1_0000_0000_0000 {
+    if bits::doubleword_at(store, 0) != SIGNATURE + e * E_UNIT {
         return Opened::NotAStore;
     }
     if in_bounds(e, base, pages) {
@@ -247,7 +252,7 @@ pub fn put_header(store: &mut [u8], g: Geometry)
     requires { ⌜ (32 ≤ length (now store)) × (g .e ≤ 14) ⌝ }
     ensures { λ _. ⌜ now (store .exit) ≡ patch (now (store .entry)) 0 (header g 1) ⌝ }
 {
-    bits::put_doubleword(store, 0, 0x1_0043_4256 + g.e * 0x1_0000_0000_0000);
+    bits::put_doubleword(store, 0, SIGNATURE + g.e * E_UNIT);
     bits::put_doubleword(store, 8, g.base);
     bits::put_doubleword(store, 16, g.pages);
     bits::put_doubleword(store, 24, 1);

@@ -3,9 +3,9 @@
 pub mod instruction;
 
 ghost use mathlib.Core.Path.{_≡_};
-ghost use Prim.Native.Nat.{ℕ, _+_, _*_, _%_, _<_};
+ghost use Prim.Native.Nat.{ℕ, _%_, _<_};
 ghost use Rattle.bits.specs.Match.{case};
-ghost use Rattle.word.specs.Word.{branchRows, loadRows, storeRows, leftRows, rightRows, immRows, left32Rows, right32Rows, imm32Rows, regRows, reg32Rows, formBy, opOf, rustWord};
+ghost use Rattle.word.specs.Word.{branchRows, loadRows, storeRows, leftRows, rightRows, immRows, left32Rows, imm32Rows, regRows, reg32Rows, formBy, opOf, rustWord};
 ghost use Rattle.word.specs.declared.Form.the-variants.{NoForm, Imm, Shift6, Unary};
 use instruction::Instruction;
 use op::AluKind;

@@ -1,6 +1,6 @@
 -- What the checks of an accepted write have shown, and how large a notice's report is.
 -- Assumes nothing.
-use mathlib.Core.Path.{_≡_, refl, sym, ap, subst, _∙_}
+use mathlib.Core.Path.{_≡_, refl, sym, ap, subst}
 use mathlib.Core.Bool.{Bool, true, false, cond}
 use mathlib.Core.List.{List}
 use Prim.Native.Nat.{ℕ, _+_, _*_, _^_, _≤_}
@@ -14,9 +14,9 @@ use Rattle.store.specs.declared.Geometry.{Geometry}
 use Rattle.store.specs.declared.Opened.{Opened}
 use Rattle.store.specs.declared.Opened.the-variants.{Sound, NotAStore}
 use Rattle.store.proofs.Known.{slots-le}
+use Rattle.cache.proofs.Checks.{rejected}
 use Rattle.cache.specs.Calls.{watched, evicted, noticedIn}
 use Rattle.cache.specs.declared.Refusal.the-variants.{BadGeometry, OutsideMemory, WrongWriteSize}
-use Rattle.cache.specs.declared.Judged.{Judged}
 use Rattle.cache.specs.declared.Judged.the-variants.{Accepted, Rejected}
 use Rattle.cache.specs.declared.Report.{Report}
 use Rattle.write.specs.Write.{goodSize, inside, writeJudged}
@@ -52,13 +52,13 @@ module _ (s : List ℕ) (size a n : ℕ) (g : Geometry) where
           let w : k ≡ g = cc in
           subst (λ (z : Geometry). opened s ≡ Sound z → size ≡ 4096 * z .pages → inside z a n ≡ true → Granted s size a n g) (sym w)
           (λ p r i. facts p r ey i) e (eqb-true _ _ ex) ez
-      tests k e true true false ex ey ez q = absurd (let z : _≡_ {A = ℕ} 0 1 = cc in omega arith)
-      tests k e true false z ex ey ez q = absurd (let z : _≡_ {A = ℕ} 0 1 = cc in omega arith)
-      tests k e false y z ex ey ez q = absurd (let z : _≡_ {A = ℕ} 0 1 = cc in omega arith)
+      tests k e true true false ex ey ez q = absurd (rejected q)
+      tests k e true false z ex ey ez q = absurd (rejected q)
+      tests k e false y z ex ey ez q = absurd (rejected q)
 
       go : (o : Opened) → opened s ≡ o → writeJudged o size a n ≡ Accepted g → Granted s size a n g
       go (Sound k) e q = tests k e (eqb size (4096 * k .pages)) (goodSize n) (inside k a n) refl refl refl q
-      go NotAStore e q = absurd (let z : _≡_ {A = ℕ} 0 1 = cc in omega arith)
+      go NotAStore e q = absurd (rejected q)
 
 pub report-small : (g : Geometry) (s : List ℕ) (a : ℕ) (r : Report) (t : List ℕ) → Bounded g → (r, t) ≡ noticedIn g s a → r .examined ≤ 16384
 report-small g s a r t b e = rw (ap (λ (p : Report × List ℕ). p .0 .examined) e) (go (watched g s a))

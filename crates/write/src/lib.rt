@@ -1,6 +1,6 @@
 // A guest's write to its memory, with the notices that the cache needs.
 ghost use mathlib.Core.Path.{_≡_};
-ghost use Prim.Native.Nat.{_+_, _-_, _≤_, _<_, _^_};
+ghost use Prim.Native.Nat.{_+_, _≤_, _<_, _^_};
 ghost use lib.ListN.{length};
 ghost use Rattle.bits.specs.Bytes.{le, patch};
 ghost use Rattle.store.specs.Layout.{opened, Bounded, Fitting};

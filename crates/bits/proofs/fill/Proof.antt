@@ -6,7 +6,6 @@ use native.Mathlib.Omega.{arith}
 use native.Mathlib.Numerals.{add-one}
 use lib.ListN.{length, take, set, replicate, length-set, replicate-append-replicate}
 use lib.Seq.{take-suc-set, take-all}
-use borrow.Author.Needs.{needs}
 use Rattle.bits.proofs.fill.Statement.{statement}
 use Rattle.bits.proofs.fill.Tie as tie
 

@@ -1,5 +1,5 @@
-use mathlib.Core.Path.{_≡_, _∙_, sym, ap, subst}
-use Prim.Native.Nat.{ℕ, _<_, _≤_, _^_, _/_, _*_, _%_}
+use mathlib.Core.Path.{_∙_}
+use Prim.Native.Nat.{_<_, _≤_, _^_, _/_}
 use native.Mathlib.Omega.{arith}
 use borrow.Author.Needs.{needs}
 use borrow.Author.Tests.{lt-ltb, le-ltb}
@@ -8,8 +8,6 @@ use mir.Facts.{toZ-pos, toZ-ofZ}
 use Rattle.bits.proofs.Sign.{shifted, small, diff, diff-fits}
 use Rattle.bits.proofs.sign_extend.Statement.{statement}
 use Rattle.bits.proofs.sign_extend.Tie as tie
-use Rattle.bits.proofs.sign_extend.Reads as reads
-use Rattle.bits.proofs.sign_extend.Lts as lts
 
 -- src/lib.rt:33:17
 shl-whole : tie.Need-shl-whole

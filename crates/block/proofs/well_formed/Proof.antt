@@ -1,6 +1,6 @@
 -- `block::well_formed` meets its contract: each test refuses what breaks one fact of the header.
 -- Assumes nothing.
-use mathlib.Core.Path.{_≡_, sym, _∙_}
+use mathlib.Core.Path.{sym, _∙_}
 use native.Mathlib.Omega.{arith}
 use Rattle.block.proofs.Head.{Head, refuses, decides}
 use borrow.Author.Needs.{needs}

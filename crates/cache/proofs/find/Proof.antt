@@ -9,7 +9,7 @@ use Rattle.store.specs.declared.Opened.{Opened}
 use Rattle.store.specs.declared.Opened.the-variants.{Sound}
 use Rattle.store.specs.Layout.{opened}
 use Rattle.store.specs.Layout.{Fitting}
-use Rattle.cache.specs.Calls.{mayHold, placeOf, found}
+use Rattle.cache.specs.Calls.{found}
 use Rattle.cache.proofs.Checks.{opened-fits, slot-fits}
 use Rattle.cache.specs.declared.LookupAnswer.the-variants.{Hit}
 use borrow.Author.Needs.{needs}

@@ -1,7 +1,6 @@
 -- `cache::flush` meets its contract: the header, and then all places.
 -- Assumes nothing.
 use mathlib.Core.Path.{_≡_, sym, _∙_}
-use Rattle.store.specs.declared.Opened.{Opened}
 use Rattle.store.specs.declared.Opened.the-variants.{Sound}
 use Rattle.store.specs.Layout.{opened}
 use Rattle.cache.proofs.Checks.{opened-fits}

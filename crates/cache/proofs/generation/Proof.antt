@@ -1,10 +1,7 @@
 -- `cache::generation` meets its contract: the header's number.
 -- Assumes nothing.
-use mathlib.Core.Path.{_≡_, sym, ap, _∙_}
+use mathlib.Core.Path.{sym, ap, _∙_}
 use native.Mathlib.Omega.{arith}
-use Rattle.store.specs.declared.Opened.{Opened}
-use Rattle.store.specs.declared.Opened.the-variants.{Sound}
-use Rattle.store.specs.Layout.{opened}
 use Rattle.store.proofs.Known.{opened-says}
 use Rattle.cache.specs.declared.GenerationAnswer.the-variants.{GenerationIs}
 use borrow.Author.Needs.{needs}

@@ -1,6 +1,6 @@
 -- `cache::insert` meets its contract: decided first, then written.
 -- Assumes nothing.
-use mathlib.Core.Path.{_≡_, sym, _∙_}
+use mathlib.Core.Path.{sym, _∙_}
 use Rattle.cache.proofs.Checks.{Taken, insert-taken, opened-fits, opened-size}
 use borrow.Author.Needs.{needs}
 use Rattle.cache.proofs.insert.Statement.{statement}

@@ -1,14 +1,22 @@
 -- `cache::insert_in` meets its contract: the bit, the generation, and the place that is lent.
 -- Assumes nothing.
-use mathlib.Core.Path.{_≡_, sym, _∙_}
+use mathlib.Core.Path.{_∙_}
+use Prim.Native.Nat.{_+_, _≤_}
 use native.Mathlib.Omega.{arith}
 use lib.ListN.{length}
 use Rattle.bits.proofs.Bytes.{put-back}
-use Rattle.cache.specs.Calls.{insertedIn, placeOf}
+use Rattle.cache.specs.Calls.{insertedIn}
 use Rattle.cache.proofs.Checks.{may-holds, slot-fits}
 use borrow.Author.Needs.{needs}
 use Rattle.cache.proofs.insert_in.Statement.{statement}
 use Rattle.cache.proofs.insert_in.Tie as tie
+
+-- the place of the slot lies in the store
+fits : (c : tie.After-place) → c .place .result + c .before .before .before .args .g .size ≤ length (c .before .before .before .args .store .now)
+fits c =
+    let start = c .before .before .before in
+    let w = slot-fits (start .args .g) (start .args .store .now) (start .args .address) (start .pre .0) in
+    omega (arith, c .place .ensures)
 
 returned : tie.Need-returns
 unfolding insertedIn
@@ -27,14 +35,11 @@ insert-in-spec =
     (λ c κs. search needs)
     (λ c κs. may-holds _ _ (c .before .before .before .before .pre .1 .0))
     (λ c κs. search needs) (λ c κs. search needs)
-    (λ c.
-    let start = c .before .before .before .before .before .before .before .before .before .before .before .before in
-    let w = slot-fits (start .args .g) (start .args .store .now) (start .args .address) (start .pre .0) in
-    omega (arith, c .before .before .before .before .before .before .before .before .before .place .ensures))
+    (λ c. omega (arith, fits (c .before .before .before .before .before .before .before .before .before)))
     (λ c. search needs) (λ c. search needs)
     (λ c.
-    let start = c .before .before .before .before .before .before .before .before .before .before .before .before in
-    let w = slot-fits (start .args .g) (start .args .store .now) (start .args .address) (start .pre .0) in
-    omega (arith, c .before .before .before .before .before .before .before .before .before .place .ensures, c .before .before .before .before .before .before .set-bit .kept .0, c .before .before .bump .kept .0))
+    let bump = c .before .before in
+    let set = bump .before .before .before .before in
+    omega (arith, fits (set .before .before .before), set .set-bit .kept .0, bump .bump .kept .0))
     (λ c κs. search needs) (λ c. search needs)
     (λ c. returned c))

@@ -1,9 +1,7 @@
 -- `cache::judge_insert` meets its contract: the four tests in their order.
 -- Assumes nothing.
-use mathlib.Core.Path.{_≡_, sym, ap, _∙_}
+use mathlib.Core.Path.{_≡_, sym, _∙_}
 use borrow.Author.Tests.{eq-eqb, ne-eqb}
-use lib.ListN.{length}
-use Rattle.store.specs.declared.Opened.{Opened}
 use Rattle.store.specs.declared.Opened.the-variants.{Sound}
 use Rattle.store.specs.Layout.{opened}
 use Rattle.cache.proofs.Checks.{opened-fits}

@@ -3,12 +3,10 @@
 use mathlib.Core.Path.{_≡_, sym, ap, _∙_}
 use mathlib.Core.List.{List}
 use Prim.Native.Nat.{ℕ}
-use Rattle.store.specs.declared.Opened.{Opened}
 use Rattle.store.specs.declared.Opened.the-variants.{Sound}
 use Rattle.store.specs.Layout.{opened}
 use Rattle.cache.proofs.Checks.{opened-fits}
 use Rattle.cache.specs.declared.Report.{Report}
-use Rattle.cache.specs.declared.NoticeAnswer.{NoticeAnswer}
 use Rattle.cache.specs.declared.NoticeAnswer.the-variants.{Noticed}
 use borrow.Author.Needs.{needs}
 use Rattle.cache.proofs.notice.Statement.{statement}

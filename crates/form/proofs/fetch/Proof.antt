@@ -1,14 +1,36 @@
 -- `form::fetch` meets its contract, test by test.
 -- Assumes nothing.
-use mathlib.Core.Path.{ap, sym, _∙_}
-use Prim.Native.Nat.{ℕ, _%_}
+use mathlib.Core.Path.{_≡_, ap, _∙_}
+use mathlib.Core.Bool.{true, false}
+use mathlib.Core.List.{List}
+use Prim.Native.Nat.{ℕ, _+_, _%_}
+use lib.Dec.{ltb, eqb}
+use lib.ListN.{length}
 use borrow.Author.Tests.{lt-ltb, le-ltb, eq-eqb, ne-eqb}
+use Rattle.bits.specs.Bytes.{halfwordAt}
 use Rattle.word.specs.Word.{rustWord}
 use Rattle.halfword.specs.Halfword.{rustHalf}
 use Rattle.form.specs.Forming.{halfFetched, wordFetched, fetched}
+use Rattle.form.specs.Written.{taken}
 use borrow.Author.Needs.{needs}
 use Rattle.form.proofs.fetch.Statement.{statement}
 use Rattle.form.proofs.fetch.Tie as tie
+
+-- where the halfword is read
+abbrev S : tie.After-halfword-at → List ℕ
+S c = c .before .before .before .before .args .s .now
+
+abbrev At : tie.After-halfword-at → ℕ
+At c = c .before .before .before .before .args .at
+
+has-two : (c : tie.After-halfword-at) → ltb (length (S c)) (At c + 2) ≡ false
+has-two c = le-ltb (length (S c)) (At c + 2) (c .before .if1 .left)
+
+is-word : (c : tie.Then2) → eqb (halfwordAt (S (c .before)) (At (c .before)) % 4) 3 ≡ true
+is-word c = eq-eqb (halfwordAt (S (c .before)) (At (c .before)) % 4) 3 (rw (c .before .halfword-at .ensures) at (c .if2 .taken))
+
+is-half : (c : tie.Else2) → eqb (halfwordAt (S (c .before)) (At (c .before)) % 4) 3 ≡ false
+is-half c = ne-eqb (halfwordAt (S (c .before)) (At (c .before)) % 4) 3 (rw (c .before .halfword-at .ensures) at (c .if2 .left))
 
 pub fetch-spec : {M : Type 1} → statement M
 unfolding fetched
@@ -16,19 +38,26 @@ fetch-spec =
     tie.close
     (tie.spec
     (λ c. search needs)
-    (λ c. rw (lt-ltb _ _ (c .if1 .taken)))
+    (λ c. let a = c .before .before .before .args in rw (lt-ltb (length (a .s .now)) (a .at + 2) (c .if1 .taken)))
     (λ c κs. search needs) (λ c. search needs)
     (λ c.
     let low = c .before .before in
-    rw (le-ltb _ _ (low .before .if1 .left), eq-eqb _ _ (rw (low .halfword-at .ensures) at (c .before .if2 .taken)), lt-ltb _ _ (c .if3 .taken)))
-    (λ c κs. search needs) (λ c κs. search needs)
+    let cut : ltb (length (S low)) (At low + 4) ≡ true = lt-ltb (length (S low)) (At low + 4) (c .if3 .taken) in
+    rw (has-two low, is-word (c .before), cut))
+    (λ c κs. search needs) (λ c. search needs) (λ c κs. search needs) (λ c. search needs)
     (λ c.
-    let wide = c .before .before in
+    let called = c .before .before in
+    let wide = called .before .before .before in
     let low = wide .before .before in
-    rw (le-ltb _ _ (low .before .if1 .left), eq-eqb _ _ (rw (low .halfword-at .ensures) at (wide .before .if2 .taken)), le-ltb _ _ (wide .if3 .left))
-    (c .fetch-word .ensures ∙ ap (λ (w : ℕ). wordFetched w (rustWord w)) (c .before .word-at .ensures)))
-    (λ c κs. search needs)
+    let a = low .before .before .before .before .args in
+    let whole : ltb (length (S low)) (At low + 4) ≡ false = le-ltb (length (S low)) (At low + 4) (wide .if3 .left) in
+    rw (has-two low, is-word (wide .before), whole)
+    (called .fetch-word .ensures ∙ ap (λ (w : ℕ). taken (a .place) (a .at) (wordFetched w (rustWord w)) (a .lent .now)) (called .before .before .word-at .ensures)))
+    (λ c. search needs) (λ c κs. search needs) (λ c. search needs)
     (λ c.
-    let low = c .before .before in
-    rw (le-ltb _ _ (low .before .if1 .left), ne-eqb _ _ (rw (low .halfword-at .ensures) at (c .before .if2 .left)))
-    (c .fetch-halfword .ensures ∙ ap (λ (h : ℕ). halfFetched (rustHalf h)) (low .halfword-at .ensures))))
+    let called = c .before .before in
+    let half = called .before .before in
+    let low = half .before in
+    let a = low .before .before .before .before .args in
+    rw (has-two low, is-half half)
+    (called .fetch-halfword .ensures ∙ ap (λ (h : ℕ). taken (a .place) (a .at) (halfFetched (rustHalf h)) (a .lent .now)) (low .halfword-at .ensures))))

@@ -1,20 +1,40 @@
 -- `form::fetch_word` meets its contract.
 -- Assumes nothing.
-use mathlib.Core.Path.{ap, sym, _∙_}
+use mathlib.Core.Path.{_≡_, refl, sym, _∙_}
+use Rattle.word.specs.Word.{rustWord}
+use Rattle.op.specs.declared.Decoded.the-variants.{None}
 use Rattle.form.specs.Forming.{wordFetched}
+use Rattle.form.proofs.Taken.{put-took, nothing-put, word-stopped, word-fallback}
 use borrow.Author.Needs.{needs}
 use Rattle.form.proofs.fetch_word.Statement.{statement}
 use Rattle.form.proofs.fetch_word.Tie as tie
+
+abbrev called : tie.After-enum-told → tie.After-put-word
+called c = c .before .before .before .before
+
+nothing : (c : tie.After-enum-told) → (rustWord (called c .before .before .before .args .raw) ≡ None) × (called c .put-word .last .1 .0 ≡ called c .before .before .before .args .lent .now)
+nothing c =
+    let a = called c .before .before .before .args in
+    nothing-put (a .place) (a .off) (a .lent .now) (rustWord (a .raw)) 4 (c .enum-told .given .1) (called c .put-word .ensures)
 
 pub fetch-word-spec : {M : Type 1} → statement M
 fetch-word-spec =
     tie.close
     (tie.spec
-    (λ c κs. search needs) (λ c. search needs) (λ c. search needs) (λ c κs. search needs)
+    (λ c κs. search needs) (λ c. search needs) (λ c. search needs) (λ c κs. search needs) (λ c. search needs)
     (λ c.
     let none = c .before .before in
-    rw (← none .before .before .decode-full .ensures, none .enum-told .given .1, ← c .before .stops-block .ensures, c .if1 .taken))
+    let a = called none .before .before .before .args in
+    word-stopped (a .place) (a .off) (a .lent .now) (a .raw) (rustWord (a .raw)) (nothing none) (sym (c .before .stops-block .ensures) ∙ c .if1 .taken))
+    (λ c κs. search needs) (λ c. search needs)
     (λ c.
-    let none = c .before .before in
-    rw (← none .before .before .decode-full .ensures, none .enum-told .given .1, ← c .before .stops-block .ensures, c .if1 .left))
-    (λ c. ap (wordFetched (c .before .before .before .before .args .raw)) (sym (c .before .decoded .given .1) ∙ c .before .before .before .decode-full .ensures)))
+    let wrote = c .before .before in
+    let test = wrote .before .before in
+    let none = test .before .before in
+    let a = called none .before .before .before .args in
+    word-fallback (a .place) (a .off) (a .lent .now) (a .raw) (rustWord (a .raw)) (nothing none) (sym (test .before .stops-block .ensures) ∙ test .if1 .left) (wrote .write-op .ensures))
+    (λ c. search needs)
+    (λ c.
+    let done = c .before .before .before .before .before in
+    let a = done .before .before .before .args in
+    put-took (a .place) (a .off) (a .lent .now) (rustWord (a .raw)) 4 (wordFetched (a .raw)) (λ op. refl) (c .before .put .given .1) (done .put-word .ensures)))

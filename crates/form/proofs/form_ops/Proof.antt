@@ -1,16 +1,17 @@
 -- `form::form_ops` meets its contract: what is left to write, with what is written, is the whole.
 -- Assumes nothing.
-use mathlib.Core.Path.{_≡_, sym, subst, _∙_}
+use mathlib.Core.Path.{_≡_, sym, ap, subst, _∙_}
 use mathlib.Core.Bool.{cond, true, false}
 use mathlib.Core.List.{List, []}
 use Prim.Native.Nat.{ℕ, _+_, _-_, _*_, _≤_, _<_}
 use native.Mathlib.Omega.{arith}
 use lib.ListN.{length}
 use borrow.Author.Needs.{needs}
-use Rattle.op.specs.declared.Op.{Op}
-use Rattle.form.specs.Forming.{rust, endsBlock, fetched, opsFrom}
-use Rattle.form.specs.declared.Fetched.the-variants.{Kept}
+use Rattle.block.specs.WellFormed.{jumps}
+use Rattle.form.specs.Forming.{rust, Kept, Stop, endsBlock, fetched, opsFrom}
+use Rattle.form.specs.Written.{Written}
 use Rattle.form.proofs.Kept.{Within, within}
+use Rattle.form.proofs.Taken.{Taking, took, stopped}
 use Rattle.form.proofs.Loop.{ops-full, ops-stop, ops-kept, Left, start, step, finish}
 use Rattle.form.proofs.form_ops.Statement.{statement}
 use Rattle.form.proofs.form_ops.Tie as tie
@@ -22,48 +23,61 @@ Inv-loop s lent₀ count₀ at₀ lent count at =
 abbrev μ-loop : tie.MeasureT-loop
 μ-loop s lent₀ count₀ at₀ lent count at = 64 - count
 
--- where an op came: it, its length, and that it lies within s
+-- where a step was made
+abbrev Made : Type 0
+Made = tie.After-fetch Inv-loop μ-loop
+
+abbrev S : Made → List ℕ
+S c = c .before .before .before .before .before .before .args .s .now
+
+abbrev Old : Made → List ℕ
+Old c = c .before .before .before .before .before .before .args .lent .now
+
+abbrev Lent : Made → List ℕ
+Lent c = c .before .before .before .loop .lent
+
+abbrev Count : Made → ℕ
+Count c = c .before .before .before .loop .count
+
+abbrev At : Made → ℕ
+At c = c .before .before .before .loop .at
+
+-- the lent bytes afterwards
+abbrev Now : Made → List ℕ
+Now c = c .fetch .last .1 .1 .0
+
+-- where it took an op: its number, its length, and that it lies within s
 abbrev Came : Type 0
-Came = tie.After-fetched Inv-loop μ-loop
+Came = tie.After-step Inv-loop μ-loop
 
-abbrev S : Came → List ℕ
-S c = c .before .before .before .before .before .before .before .args .s .now
+abbrev made : Came → Made
+made c = c .before .before .before .before
 
-abbrev Count : Came → ℕ
-Count c = c .before .before .before .before .loop .count
-
-abbrev At : Came → ℕ
-At c = c .before .before .before .before .loop .at
-
-abbrev O : Came → Op
-O c = c .fetched .given .0 .0
+abbrev N : Came → ℕ
+N c = c .step .given .0 .0
 
 abbrev L : Came → ℕ
-L c = c .fetched .given .0 .1 .0
+L c = c .step .given .0 .1 .0
 
-is : (c : Came) → fetched rust (S c) (At c) ≡ Kept (O c) (L c)
-is c = sym (c .before .before .fetch .ensures) ∙ c .fetched .given .1
+taking : (c : Came) → Taking (fetched rust (S (made c)) (At (made c))) (16 + Count (made c) * 16) (At (made c)) (Lent (made c)) (Now (made c)) (N c) (L c)
+taking c = took _ _ _ _ (c .step .given .1) (made c .fetch .ensures)
 
-inside : (c : Came) → Within (S c) (At c) (Kept (O c) (L c))
-inside c = subst (Within (S c) (At c)) (is c) (within rust (S c) (At c))
+inside : (c : Came) → Within (S (made c)) (At (made c)) (Kept (taking c .op) (L c))
+inside c = subst (Within (S (made c)) (At (made c))) (taking c .is) (within rust (S (made c)) (At (made c)))
 
--- where it was written
-abbrev Wrote : Type 0
-Wrote = tie.After-slice-known2 Inv-loop μ-loop
-
-abbrev came : Wrote → Came
-came c = c .before .before .before .before .before
-
-left : (c : Wrote) → Left (opsFrom rust (S (came c)) 64 0)
-    (cond (endsBlock (O (came c))) [] (opsFrom rust (S (came c)) (64 - (Count (came c) + 1)) (At (came c) + L (came c))))
-    (came c .before .before .before .before .before .before .before .args .lent .now)
-    (c .before .before .write-op .last .0)
-    (Count (came c) + 1) (At (came c) + L (came c))
+left : (c : Came) → Left (opsFrom rust (S (made c)) 64 0)
+    (cond (endsBlock (taking c .op)) [] (opsFrom rust (S (made c)) (64 - (Count (made c) + 1)) (At (made c) + L c)))
+    (Old (made c)) (Now (made c)) (Count (made c) + 1) (At (made c) + L c)
 left c =
-    let b = came c in
-    let h : Count b < 64 = b .before .before .before .loop-test .taken in
-    step (O b) (c .before .before .write-op .last .0) (c .before .before .write-op .ensures) h
-    (rw (ops-kept rust (S b) (Count b) (At b) h (O b) (L b) (is b)) at (b .before .before .before .before .loop .inv .0))
+    let m = made c in
+    let t = taking c in
+    let h : Count m < 64 = m .before .before .loop-test .taken in
+    step (t .op) (Now m) (t .wrote) h
+    (rw (ops-kept rust (S m) (Count m) (At m) h (t .op) (L c) (t .is)) at (m .before .before .before .loop .inv .0))
+
+-- where it stopped
+none : (c : tie.After-enum-told Inv-loop μ-loop) → (fetched rust (S (c .before .before .before .before)) (At (c .before .before .before .before)) ≡ Stop) × (Now (c .before .before .before .before) ≡ Lent (c .before .before .before .before))
+none c = stopped _ _ _ _ (c .enum-told .given .1) (c .before .before .before .before .fetch .ensures)
 
 pub form-ops-spec : {M : Type 1} → statement M
 form-ops-spec =
@@ -72,30 +86,32 @@ form-ops-spec =
     Inv-loop
     μ-loop
     (λ c. (start _ _ (c .before .before .pre .1), omega arith, omega arith))
-    (λ c κs. omega arith)
+    (λ c. omega arith) (λ c. omega arith)
+    (λ c κs. (omega arith, omega (arith, c .before .before .loop .inv .0 .room)))
     (λ c. search needs)
     (λ c. search needs)
-    (λ c. c .before .before .before .before .loop .inv .0 .room ∙ sym (c .before .before .before .before .before .before .before .pre .1))
     (λ c.
-    let loop = c .before .before .before .before .loop in
-    let e = ops-stop rust _ _ _ (c .before .before .before .loop-test .taken) (sym (c .before .before .fetch .ensures) ∙ c .enum-told .given .1) in
-    finish (loop .inv .1) (omega arith) (rw e at (loop .inv .0)))
+    let m = c .before .before .before .before in
+    ap length (none c .1) ∙ m .before .before .before .loop .inv .0 .room ∙ sym (m .before .before .before .before .before .before .pre .1))
+    (λ c.
+    let m = c .before .before .before .before in
+    let loop = m .before .before .before .loop in
+    let e = ops-stop rust (S m) (Count m) (At m) (m .before .before .loop-test .taken) (none c .0) in
+    subst (λ (l : List ℕ). Written (opsFrom rust (S m) 64 0) (Old m) l (Count m) (At m)) (sym (none c .1)) (finish (loop .inv .1) (omega arith) (rw e at (loop .inv .0))))
     (λ c. omega arith)
-    (λ c. omega arith)
-    (λ c. omega (arith, inside (c .before .before)))
-    (λ c κs. omega (arith, c .before .before .before .before .before .before .loop .inv .0 .room))
-    (λ c. omega arith)
-    (λ c. omega (arith, inside (came c)))
-    (λ c. omega (arith, inside (came c)))
+    (λ c. omega (arith, inside (c .before)))
+    (λ c. omega (arith, inside (c .before)))
     (λ c κs. search needs)
-    (λ c. left (c .before .before) .room ∙ sym (came (c .before .before) .before .before .before .before .before .before .before .pre .1))
+    (λ c. left (c .before .before .before) .room ∙ sym (made (c .before .before .before) .before .before .before .before .before .before .pre .1))
     (λ c.
-    let e : endsBlock (O (came (c .before .before))) ≡ true = sym (c .before .ends-block .ensures) ∙ c .if1 .taken in
-    finish (omega arith) (omega (arith, inside (came (c .before .before)))) (rw e at (left (c .before .before))))
+    let came = c .before .before .before in
+    let e : endsBlock (taking came .op) ≡ true = ap jumps (sym (taking came .number)) ∙ sym (c .before .jumps .ensures) ∙ c .if1 .taken in
+    finish (omega arith) (omega (arith, inside came)) (rw e at (left came)))
     (λ c. omega arith)
     (λ c.
-    let e : endsBlock (O (came (c .before .before))) ≡ false = sym (c .before .ends-block .ensures) ∙ c .if1 .left in
-    (rw e at (left (c .before .before)), omega arith, omega (arith, inside (came (c .before .before)))))
+    let came = c .before .before .before in
+    let e : endsBlock (taking came .op) ≡ false = ap jumps (sym (taking came .number)) ∙ sym (c .before .jumps .ensures) ∙ c .if1 .left in
+    (rw e at (left came), omega arith, omega (arith, inside came)))
     (λ c. c .before .loop .inv .0 .room ∙ sym (c .before .before .before .before .pre .1))
     (λ c.
     let loop = c .before .loop in

@@ -1,9 +1,9 @@
 -- `store::clear_bits` meets its contract: the part that was lent comes back as zeros.
 -- Assumes nothing.
 use native.Mathlib.Omega.{arith}
-use mathlib.Core.Path.{_≡_, _∙_, ap}
+use mathlib.Core.Path.{_∙_, ap}
 use Prim.Native.Nat.{ℕ, _-_}
-use lib.ListN.{length, replicate, length-replicate}
+use lib.ListN.{replicate, length-replicate}
 use Rattle.bits.specs.Bytes.{part}
 use Rattle.bits.proofs.Bytes.{put-part, length-part}
 use borrow.Author.Needs.{needs}

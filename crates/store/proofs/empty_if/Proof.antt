@@ -1,8 +1,6 @@
 -- `store::empty_if` meets its contract: the test is the definition's.
 -- Assumes nothing.
-use mathlib.Core.Path.{_≡_, sym, ap, _∙_}
-use mathlib.Core.Bool.{Bool, cond}
-use Prim.Native.Nat.{ℕ}
+use mathlib.Core.Path.{_∙_}
 use Rattle.store.specs.Places.{concerns, emptied}
 use borrow.Author.Needs.{needs}
 use Rattle.store.proofs.empty_if.Statement.{statement}

@@ -3,12 +3,12 @@
 use native.Mathlib.Omega.{arith}
 use mathlib.Core.Path.{_≡_, sym, _∙_, ap}
 use lib.ListN.{getD}
-use Rattle.store.specs.Layout.{signature, inBounds, storeSize, geometry, stated}
+use Rattle.store.specs.Layout.{inBounds, storeSize, geometry, stated}
 use Rattle.store.specs.declared.Geometry.{Geometry}
 use Rattle.bits.proofs.Tests.{true-false}
 use mathlib.Core.Bool.{Bool}
 use Rattle.store.specs.declared.Opened.the-variants.{Sound}
-use Rattle.store.proofs.Known.{bounds-are, Header, opened-sound, opened-not, signature-is}
+use Rattle.store.proofs.Known.{bounds-are, opened-sound, opened-not, signature-is}
 use borrow.Author.Needs.{needs}
 use Rattle.store.proofs.open.Statement.{statement}
 use Rattle.store.proofs.open.Tie as tie

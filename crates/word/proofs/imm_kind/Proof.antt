@@ -2,7 +2,6 @@
 -- Assumes nothing.
 use mathlib.Core.Path.{_≡_}
 use native.Mathlib.Omega.{arith}
-use borrow.Author.Needs.{needs}
 use Rattle.word.proofs.imm_kind.Statement.{statement}
 use Rattle.word.proofs.imm_kind.Tie as tie
 

@@ -1,6 +1,6 @@
 -- `write::guest_write` meets its contract: decided first; then the notices, then the bytes.
 -- Assumes nothing.
-use mathlib.Core.Path.{_≡_, sym, ap, _∙_}
+use mathlib.Core.Path.{sym, ap, _∙_}
 use mathlib.Core.List.{List}
 use Prim.Native.Nat.{ℕ, _-_}
 use native.Mathlib.Omega.{arith}
@@ -8,7 +8,6 @@ use lib.ListN.{length}
 use Rattle.bits.specs.Bytes.{le, patch}
 use Rattle.cache.proofs.Checks.{opened-fits}
 use Rattle.cache.specs.declared.Report.{Report}
-use Rattle.write.specs.declared.WriteAnswer.{WriteAnswer}
 use Rattle.write.specs.declared.WriteAnswer.the-variants.{Written}
 use Rattle.write.proofs.Granted.{Granted, write-granted}
 use borrow.Author.Needs.{needs}

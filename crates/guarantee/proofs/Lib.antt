@@ -1,0 +1,9 @@
+-- Demand 3: the simulation of a store by its past, and what follows.
+pub mod Simulation
+pub mod Lookup
+pub mod Run
+pub mod Guarantee
+pub mod Spent
+pub mod Fresh
+pub mod Reading
+pub mod Worthless

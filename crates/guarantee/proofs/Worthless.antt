@@ -1,0 +1,70 @@
+-- None of the worthless programs answers as the guarantee has it: for each a short list of accepted calls where it does not.
+-- Assumes nothing.
+use mathlib.Core.Path.{_≡_, refl, ap}
+use mathlib.Core.List.{List, [], _∷_}
+use mathlib.Core.Option.{Option, none, some}
+use Prim.Native.Nat.{ℕ}
+use native.Mathlib.Omega.{arith}
+use lib.IntN.{pos}
+use lib.ListN.{getD}
+use Rattle.bits.specs.Bytes.{le}
+use Rattle.op.specs.declared.Op.the-variants.{AluImm}
+use Rattle.op.specs.declared.AluKind.the-variants.{Add}
+use Rattle.op.specs.WellFormed.{limits, opWellFormed}
+use Rattle.block.specs.Record.{insn, opRecords, byteLen, blockRecord}
+use Rattle.block.specs.WellFormed.{allZero, placed, opsWellFormed, wellFormed}
+use Rattle.store.specs.Layout.{geometry}
+use Rattle.history.specs.History.{inserted, touched, insertions, shown, marked}
+use Rattle.history.proofs.Sentences.{no-some}
+use Rattle.guarantee.specs.Calls.{make, insert, notice}
+use Rattle.guarantee.specs.Past.{since, told, past}
+use Rattle.guarantee.specs.Worthless.{ShowsRight, CountsRight, keepsNothing, firstKept, keepsFirst, untouched, emptiesAll, alwaysAll, alwaysNone}
+
+-- a block of one op, ADDI x1, x1, n, at address 0
+block : ℕ → List ℕ
+block n = blockRecord 0 (insn (AluImm Add 1 1 (pos n)) 2 ∷ [])
+
+-- the low byte of its immediate
+immOf : Option (List ℕ) → ℕ
+immOf none = 0
+immOf (some r) = getD r 24 0
+
+-- a store of four slots for two pages; then a block in it, another in its place, a notice in the other page
+new : past 4200 8192 (make 2 0 2 ∷ []) ≡ since (geometry 2 0 2) []
+unfolding past told
+new = refl
+
+one : past 4200 8192 (insert 0 (block 1) ∷ make 2 0 2 ∷ []) ≡ since (geometry 2 0 2) (inserted 0 (block 1) ∷ [])
+unfolding past told block blockRecord opRecords byteLen wellFormed opsWellFormed placed opWellFormed limits allZero le
+one = refl
+
+two : past 4200 8192 (insert 0 (block 2) ∷ insert 0 (block 1) ∷ make 2 0 2 ∷ []) ≡ since (geometry 2 0 2) (inserted 0 (block 2) ∷ inserted 0 (block 1) ∷ [])
+unfolding past told block blockRecord opRecords byteLen wellFormed opsWellFormed placed opWellFormed limits allZero le
+two = refl
+
+noticed : past 4200 8192 (notice 4096 ∷ insert 0 (block 1) ∷ make 2 0 2 ∷ []) ≡ since (geometry 2 0 2) (touched 1 ∷ inserted 0 (block 1) ∷ [])
+unfolding past told block blockRecord opRecords byteLen wellFormed opsWellFormed placed opWellFormed limits allZero le
+noticed = refl
+
+pub keeps-nothing : ShowsRight keepsNothing → ⊥
+unfolding shown
+keeps-nothing right = no-some (block 1) (right 4200 8192 _ (geometry 2 0 2) _ one 0)
+
+pub keeps-first : ShowsRight keepsFirst → ⊥
+unfolding shown firstKept insertions immOf block blockRecord opRecords le
+keeps-first right =
+    let same : some (block 1) ≡ some (block 2) = right 4200 8192 _ (geometry 2 0 2) _ two 0 in
+    let imm : _≡_ {A = ℕ} 1 2 = ap immOf same in
+    omega arith
+
+pub empties-all : ShowsRight emptiesAll → ⊥
+unfolding shown untouched
+empties-all right = no-some (block 1) (right 4200 8192 _ (geometry 2 0 2) _ noticed 0)
+
+pub always-all : CountsRight alwaysAll → ⊥
+unfolding marked
+always-all right = let none-due : _≡_ {A = ℕ} 4 0 = right 4200 8192 _ (geometry 2 0 2) _ new 0 in omega arith
+
+pub always-none : CountsRight alwaysNone → ⊥
+unfolding marked
+always-none right = let all-due : _≡_ {A = ℕ} 0 4 = right 4200 8192 _ (geometry 2 0 2) _ one 0 in omega arith

@@ -1,0 +1,58 @@
+-- Document 01's worthless programs, by what they answer to a history.
+-- Assumes nothing.
+use Prim.Native.Nat.{ℕ, _^_}
+use mathlib.Core.Path.{_≡_}
+use mathlib.Core.Bool.{cond}
+use mathlib.Core.List.{List, [], _∷_}
+use mathlib.Core.Option.{Option, none, some}
+use lib.Dec.{eqb}
+use Rattle.store.specs.Layout.{slotOf}
+use Rattle.store.specs.declared.Geometry.{Geometry}
+use Rattle.history.specs.History.{Event, inserted, touched, flushed, insertions, shown, examined}
+use Rattle.guarantee.specs.Calls.{Call}
+use Rattle.guarantee.specs.Past.{since, pageOf, past}
+
+-- what a cache shows at an address after a history, and the slots it says it examined for a page
+abbrev pub Shows : Type 0
+Shows = Geometry → List Event → ℕ → Option (List ℕ)
+
+abbrev pub Counts : Type 0
+Counts = Geometry → List Event → ℕ → ℕ
+
+-- as the guarantee has it, after all calls on buffers of any lengths
+abbrev pub ShowsRight : Shows → Type 0
+ShowsRight f = (size room : ℕ) (calls : List Call) (g : Geometry) (h : List Event) → past size room calls ≡ since g h → (a : ℕ) → f g h a ≡ shown (slotOf g) pageOf h a
+
+abbrev pub CountsRight : Counts → Type 0
+CountsRight f = (size room : ℕ) (calls : List Call) (g : Geometry) (h : List Event) → past size room calls ≡ since g h → (p : ℕ) → f g h p ≡ examined (slotOf g) pageOf (2 ^ g .e) h p
+
+-- takes insertions and keeps nothing
+abbrev pub keepsNothing : Shows
+keepsNothing g h a = none
+
+-- keeps only its first insertion
+unfoldable pub firstKept : List Event → ℕ → Option (List ℕ)
+firstKept [] a = none
+firstKept (inserted b r ∷ h) a = cond (eqb (insertions h) 0) (cond (eqb b a) (some r) none) (firstKept h a)
+firstKept (touched p ∷ h) a = cond (eqb p (pageOf a)) none (firstKept h a)
+firstKept (flushed ∷ h) a = none
+
+abbrev pub keepsFirst : Shows
+keepsFirst g h a = firstKept h a
+
+-- empties everything on each notice and write
+unfoldable pub untouched : Geometry → List Event → ℕ → Option (List ℕ)
+untouched g [] a = none
+untouched g (inserted b r ∷ h) a = cond (eqb b a) (some r) (cond (eqb (slotOf g b) (slotOf g a)) none (untouched g h a))
+untouched g (touched p ∷ h) a = none
+untouched g (flushed ∷ h) a = none
+
+abbrev pub emptiesAll : Shows
+emptiesAll g h a = untouched g h a
+
+-- make their counts up: always every slot, and never one
+abbrev pub alwaysAll : Counts
+alwaysAll g h p = 2 ^ g .e
+
+abbrev pub alwaysNone : Counts
+alwaysNone g h p = 0
