@@ -306,12 +306,12 @@ impl Calls for Cache {
             (Deed::Make, Side::Ours) => self.make(),
             (Deed::Flush | Deed::Make, Side::Floor) => {
                 black_box(&mut self.store[..]).fill(0);
-                // The next pass finds a store again.
                 0
             }
         }
     }
 
+    /// The next pass finds a store again.
     fn tidy(&mut self, side: Side) {
         if matches!((self.deed, side), (Deed::Flush | Deed::Make, Side::Floor)) {
             self.make();

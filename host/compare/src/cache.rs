@@ -335,14 +335,7 @@ impl Draw {
 }
 
 /// One history: so many calls on one store, every lent byte compared after each.
-fn history(
-    shape: Shape,
-    calls: u64,
-    scribbled: bool,
-    mut random: Random,
-    numbers: &mut [u64; 10],
-    tally: &mut Tally,
-) {
+fn history(shape: Shape, calls: u64, scribbled: bool, mut random: Random, tally: &mut Tally) {
     // A memory too large to compare at each call is not lent, but its first page: writes are then refused.
     let whole = shape.pages * PAGE;
     let lent = if whole > 1 << 20 { PAGE } else { whole };
@@ -384,7 +377,7 @@ fn history(
             (Call::Insert(_, before), Call::Insert(_, after)) => before == after,
             _ => true,
         };
-        numbers[expected.number as usize] += 1;
+        tally.expects(expected.number);
         let same = ours == model;
         tally.expect(answer == expected && same && kept, || {
             format!("{shape:x?}, call {step}, {call:x?}: document 01 gives {expected:?}, ours {answer:?}; lent bytes {}", if same { "the same" } else { "differ" })
@@ -407,7 +400,6 @@ fn history(
 pub fn histories(plan: &Plan, tally: &mut Tally) {
     let budget: u64 = if plan.all { 1 << 37 } else { 1 << 34 };
     let mut part = 0x100;
-    let mut numbers = [0; 10];
     for e in 0..=14 {
         for (pages, base) in [
             (1, 0),
@@ -428,13 +420,11 @@ pub fn histories(plan: &Plan, tally: &mut Tally) {
                     calls / 2,
                     scribbled,
                     Random::new(plan.seed, part),
-                    &mut numbers,
                     tally,
                 );
             }
         }
     }
-    println!("answers by number, from 0 on: {numbers:?}");
 }
 
 /// The original's cache beside ours at e = 14: numbers, values and records at each call; all slots, tags and page marks at every 512th.

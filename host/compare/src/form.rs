@@ -72,6 +72,7 @@ fn one(bus: &mut Plain, address: u64, len: usize, tally: &mut Tally) {
     const MOST: usize = AROUND + RECORD + 8 + AROUND;
     let (mut left, mut right) = ([BEFORE; MOST], [BEFORE; MOST]);
     let number = expected(bus, address, &mut left[AROUND..AROUND + len]);
+    tally.expects(number);
     let answer = ours(
         &bus.bytes,
         bus.base,

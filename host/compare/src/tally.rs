@@ -5,6 +5,8 @@ use std::fmt;
 pub struct Tally {
     pub same: u64,
     pub differ: u64,
+    /// How often each number was expected, where a part counts them: what its calls came to.
+    pub numbers: [u64; 10],
 }
 
 impl Tally {
@@ -32,6 +34,10 @@ impl Tally {
         self.same += other.same;
         self.differ += other.differ;
     }
+
+    pub fn expects(&mut self, number: u64) {
+        self.numbers[number as usize] += 1;
+    }
 }
 
 impl fmt::Display for Tally {
@@ -41,6 +47,10 @@ impl fmt::Display for Tally {
             "{} compared, {} different",
             self.same + self.differ,
             self.differ
-        )
+        )?;
+        if self.numbers != [0; 10] {
+            write!(f, ", by number from 0 on {:?}", self.numbers)?;
+        }
+        Ok(())
     }
 }

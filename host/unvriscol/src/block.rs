@@ -56,7 +56,7 @@ impl Block {
     }
 
     /// The block of a record; its address is left out. None where the length, the count or an op's record is not a block's, as in a store that
-    /// something else wrote on.
+    /// something else wrote on. The other rules of document 01, as on offsets, are not judged here.
     pub fn from_record(record: &[u8]) -> Option<Self> {
         let record: &[u8; Self::LEN] = record.try_into().ok()?;
         let number = |at| u16::from_le_bytes([record[at], record[at + 1]]);
@@ -64,6 +64,9 @@ impl Block {
             records: [[0; DecodedInsn::LEN]; MAX_BLOCK_OPS],
             count: number(8).into(),
         };
+        if ops.count == 0 {
+            return None;
+        }
         let used = ops.records.get_mut(..ops.count)?;
         used.as_flattened_mut()
             .copy_from_slice(&record[Self::HEAD..][..ops.count * DecodedInsn::LEN]);
@@ -155,7 +158,7 @@ mod tests {
         form_into(&page(), 0, 0, &mut record).unwrap();
         let block = Block::from_record(&record).unwrap();
         assert_eq!(block.to_record(0), record);
-        for (at, byte) in [(8, 65), (9, 1), (16, 10)] {
+        for (at, byte) in [(8, 0), (8, 65), (9, 1), (16, 10)] {
             let mut record = record;
             record[at] = byte;
             assert_eq!(Block::from_record(&record), None, "byte {at} is {byte}");

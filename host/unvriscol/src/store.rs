@@ -126,8 +126,8 @@ impl<B: AsRef<[u8]> + AsMut<[u8]>> Store<B> {
 
 /// The original's methods.
 impl<B: AsRef<[u8]> + AsMut<[u8]>> Store<B> {
-    /// The block at an address, if the cache has it: a copy of what [`Store::find`] finds. A record that is no block's, as only opened bytes can
-    /// have, is not found.
+    /// The block at an address, if the cache has it: a copy of what [`Store::find`] finds. Where [`Block::from_record`] gives none, as only bytes that
+    /// were opened can have it, neither does this.
     #[inline]
     pub fn lookup(&self, physical_address: u64) -> Option<Block> {
         Block::from_record(self.find(physical_address).ok()?)
