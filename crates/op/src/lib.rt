@@ -5,7 +5,7 @@ ghost use lib.ListN.{length};
 ghost use Rattle.bits.specs.Bytes.{patch};
 ghost use Rattle.op.specs.Kinds.{aluNumber, loadNumber, storeNumber, branchNumber};
 ghost use Rattle.op.specs.Record.{bits64, fields, opFields, opBytes, opRecord};
-ghost use Rattle.op.specs.WellFormed.{atMost, limits, within, ilenKnown, opWellFormed};
+ghost use Rattle.op.specs.WellFormed.{limits, within, ilenKnown, opWellFormed};
 
 pub enum AluKind {
     Add,
@@ -364,32 +364,38 @@ pub struct Limits {
     pub imm: u64,
 }
 
-fn at_most(kind: u8, rd: u8, rs1: u8, rs2: u8, imm: u64) -> Limits
-    ensures { λ r. ⌜ r ≡ atMost kind rd rs1 rs2 imm ⌝ }
-{
-    Limits {
-        kind,
-        rd,
-        rs1,
-        rs2,
-        imm,
-    }
-}
+// The table of limits by columns, a digit for each op number from the right: kinds to the base 64, and whether the op has the field. A jump on the op
+// costs more than all its tests.
+const KINDS: u64 = 0o00_00_05_03_06_71_71_00_00;
+
+const HAS_RD: u64 = 0b1_1001_1111;
+
+const HAS_RS1: u64 = 0b1_0111_1100;
+
+const HAS_RS2: u64 = 0b0_0110_1000;
+
+const HAS_IMM: u64 = 0b1_1111_0111;
 
 fn limits_of(op: u8) -> Limits
+    requires { ⌜ op ≤ 9 ⌝ }
     ensures { λ r. ⌜ r ≡ limits op ⌝ }
 {
-    match op {
-        0 => at_most(0, 31, 0, 0, u64::MAX),
-        1 => at_most(0, 31, 0, 0, u64::MAX),
-        2 => at_most(57, 31, 31, 0, u64::MAX),
-        3 => at_most(57, 31, 31, 31, 0),
-        4 => at_most(6, 31, 31, 0, u64::MAX),
-        5 => at_most(3, 0, 31, 31, u64::MAX),
-        6 => at_most(5, 0, 31, 31, u64::MAX),
-        7 => at_most(0, 31, 0, 0, u64::MAX),
-        8 => at_most(0, 31, 31, 0, u64::MAX),
-        _ => at_most(0, 0, 0, 0, 0xffff_ffff),
+    if op == 9 {
+        return Limits {
+            kind: 0,
+            rd: 0,
+            rs1: 0,
+            rs2: 0,
+            imm: 0xffff_ffff,
+        };
+    }
+    let n = op as u64;
+    Limits {
+        kind: ((KINDS >> (6 * n)) % 64) as u8,
+        rd: ((HAS_RD >> n) % 2 * 31) as u8,
+        rs1: ((HAS_RS1 >> n) % 2 * 31) as u8,
+        rs2: ((HAS_RS2 >> n) % 2 * 31) as u8,
+        imm: (HAS_IMM >> n) % 2 * u64::MAX,
     }
 }
 
@@ -397,31 +403,17 @@ fn within(record: &[u8], most: Limits) -> bool
     requires { ⌜ length (now «record») ≡ 16 ⌝ }
     ensures { λ r. ⌜ r ≡ within (now («record» .entry)) most ⌝ }
 {
-    if most.kind < record[1] {
-        return false;
-    }
-    if most.rd < record[2] {
-        return false;
-    }
-    if most.rs1 < record[3] {
-        return false;
-    }
-    if most.rs2 < record[4] {
-        return false;
-    }
-    bits::doubleword_at(record, 8) <= most.imm
+    (record[1] <= most.kind)
+        & (record[2] <= most.rd)
+        & (record[3] <= most.rs1)
+        & (record[4] <= most.rs2)
+        & (bits::doubleword_at(record, 8) <= most.imm)
 }
 
 fn ilen_known(op: u8, ilen: u8) -> bool
     ensures { λ r. ⌜ r ≡ ilenKnown op ilen ⌝ }
 {
-    if ilen == 4 {
-        return true;
-    }
-    if ilen == 2 {
-        return op != 9;
-    }
-    false
+    (ilen == 4) | ((ilen == 2) & (op != 9))
 }
 
 // Whether sixteen bytes are a record of one op, wherever it stands.

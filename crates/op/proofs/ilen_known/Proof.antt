@@ -1,13 +1,8 @@
--- `op::ilen_known` meets its contract.
+-- `op::ilen_known` meets its contract: the tests are the definition's. The file stands here so that a wrong test is refused here.
 -- Assumes nothing.
-use borrow.Author.Tests.{eq-eqb, ne-eqb}
+use borrow.Author.Needs.{needs}
 use Rattle.op.proofs.ilen_known.Statement.{statement}
 use Rattle.op.proofs.ilen_known.Tie as tie
 
 pub ilen-known-spec : {M : Type 1} → statement M
-ilen-known-spec =
-    tie.close
-    (tie.spec
-    (λ c. rw (eq-eqb _ _ (c .if1 .taken)))
-    (λ c. simp (ne-eqb _ _ (c .before .if1 .left), eq-eqb _ _ (c .if2 .taken)))
-    (λ c. simp (ne-eqb _ _ (c .before .if1 .left), ne-eqb _ _ (c .if2 .left))))
+ilen-known-spec = tie.close (tie.spec (λ c. search needs))

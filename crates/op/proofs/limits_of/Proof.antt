@@ -1,26 +1,42 @@
--- `op::limits_of` meets its contract: an arm for each row.
+-- `op::limits_of` meets its contract: columns and rows are compared at each op number.
 -- Assumes nothing.
-use mathlib.Core.Path.{_∙_}
-use Rattle.bits.proofs.Cases.{none-of}
-use Rattle.op.specs.WellFormed.{limitRows, limits}
+use mathlib.Core.Path.{_≡_}
+use Prim.Native.Nat.{ℕ, suc, _≤_}
+use native.Mathlib.Omega.{arith}
+use Rattle.bits.proofs.Every.{decide}
+use Rattle.op.specs.WellFormed.{limits}
 use borrow.Author.Needs.{needs}
 use Rattle.op.proofs.limits_of.Statement.{statement}
 use Rattle.op.proofs.limits_of.Tie as tie
 
-pub limits-of-spec : {M : Type 1} → statement M
+-- a number from k on is k or more
+from : (x k : ℕ) {P : Type 0} → k ≤ x → (x ≡ k → P) → (suc k ≤ x → P) → P
+from x k h this next = decide x k this (λ n. next (omega arith))
+
+fallback : tie.Need-returns
 unfolding limits
+fallback c = rw (c .if1 .taken)
+
+others : tie.Need-returns-2
+unfolding limits
+others c =
+    let op = c .before .args .op in
+    from op 0 (omega arith) (λ e. rw e)
+    (λ h. from op 1 h (λ e. rw e)
+    (λ h. from op 2 h (λ e. rw e)
+    (λ h. from op 3 h (λ e. rw e)
+    (λ h. from op 4 h (λ e. rw e)
+    (λ h. from op 5 h (λ e. rw e)
+    (λ h. from op 6 h (λ e. rw e)
+    (λ h. from op 7 h (λ e. rw e)
+    (λ h. from op 8 h (λ e. rw e)
+    (λ h. absurd (c .if1 .left (omega (arith, c .before .pre))))))))))))
+
+pub limits-of-spec : {M : Type 1} → statement M
 limits-of-spec =
     tie.close
     (tie.spec
-    (λ c κs. search needs) (λ c κs. search needs) (λ c κs. search needs) (λ c κs. search needs) (λ c κs. search needs) (λ c κs. search needs)
-    (λ c κs. search needs) (λ c κs. search needs) (λ c κs. search needs) (λ c κs. search needs)
-    (λ c. rw (c .before .match .keys1) (c .at-most .ensures))
-    (λ c. rw (c .before .match .keys2) (c .at-most2 .ensures))
-    (λ c. rw (c .before .match .keys3) (c .at-most3 .ensures))
-    (λ c. rw (c .before .match .keys4) (c .at-most4 .ensures))
-    (λ c. rw (c .before .match .keys5) (c .at-most5 .ensures))
-    (λ c. rw (c .before .match .keys6) (c .at-most6 .ensures))
-    (λ c. rw (c .before .match .keys7) (c .at-most7 .ensures))
-    (λ c. rw (c .before .match .keys8) (c .at-most8 .ensures))
-    (λ c. rw (c .before .match .keys9) (c .at-most9 .ensures))
-    (λ c. c .at-most10 .ensures ∙ none-of (c .before .before .args .op) limitRows _ (c .before .match .rest)))
+    (λ c. fallback c)
+    (λ c. search needs) (λ c. search needs) (λ c. search needs) (λ c. search needs) (λ c. search needs) (λ c. search needs) (λ c. search needs)
+    (λ c. search needs) (λ c. search needs) (λ c. search needs) (λ c. search needs) (λ c. search needs) (λ c. search needs) (λ c. search needs)
+    (λ c. others c))
