@@ -6,8 +6,8 @@
 //! cargo run --release -p compare -- --seed 7     # the random part from another seed
 //! cargo run --release -p compare -- --image FILE # forming at every offset of a file's bytes too; may be repeated
 //! cargo run --release -p compare -- cache        # the parts that have the word in their name
-//! ```
 //! cargo run --release -p compare -- --replay ../crates/replay   # no comparison: writes the Rust's answers down for crates/replay
+//! ```
 //!
 //! The exit status is 1 where anything differs.
 mod alu;
