@@ -1,6 +1,6 @@
 -- Demand 3. After any calls on any bytes, from the last accepted Make on: what each call answers, by the calls since then and no byte of the store.
 -- Assumes nothing.
-use mathlib.Core.Path.{_≡_, refl, sym, ap, subst, _∙_}
+use mathlib.Core.Path.{_≡_, refl, sym, ap, ap₂, subst, _∙_}
 use mathlib.Core.List.{List}
 use mathlib.Core.Option.{some}
 use Prim.Native.Nat.{ℕ, _+_, _-_, _%_, _^_}
@@ -10,7 +10,7 @@ use Rattle.store.specs.Layout.{opened, slotOf}
 use Rattle.store.specs.declared.Geometry.{Geometry}
 use Rattle.store.specs.declared.Opened.{Opened}
 use Rattle.store.specs.declared.Opened.the-variants.{Sound}
-use Rattle.cache.specs.Calls.{insertJudged, insertCall, noticeCall, flushCall, generationCall}
+use Rattle.cache.specs.Calls.{makeJudged, made, makeCall, insertJudged, insertCall, noticeCall, flushCall, generationCall}
 use Rattle.cache.specs.Calls as cache
 use Rattle.cache.specs.declared.NoticeAnswer.the-variants.{Noticed}
 use Rattle.cache.specs.declared.FlushAnswer.the-variants.{Flushed}
@@ -25,7 +25,7 @@ use Rattle.history.specs.History.{Event, insertions, shown, marked, Lives, Mark
 use Rattle.history.proofs.Sentences.{shown-lives, lives-shown, marked-is, is-marked}
 use Rattle.guarantee.specs.Calls.{Call, Lent, run, lookedUp}
 use Rattle.guarantee.specs.Past.{Past, since, pageOf, pastOf}
-use Rattle.guarantee.specs.Answers.{report, reports, insertAnswered, writeAnswered}
+use Rattle.guarantee.specs.Answers.{report, reports, makeAnswered, insertAnswered, writeAnswered}
 use Rattle.guarantee.proofs.Simulation.{Simulates, notice-reports, write-reports}
 use Rattle.guarantee.proofs.Lookup.{lookup-shows}
 use Rattle.guarantee.proofs.Run.{Follows, kept, sound-same}
@@ -51,7 +51,14 @@ module _ (calls : List Call) (l : Lent) (g : Geometry) (h : List Event) (is : pa
   pub lives-hit : (a : ℕ) (r : List ℕ) → Lives (slotOf g) pageOf h a r → lookedUp (run calls l) a ≡ some r
   lives-hit a r e = hits a ∙ lives-shown (slotOf g) pageOf h a r e
 
-  -- which insertions and writes are accepted, and what notices and writes report
+  -- which calls are accepted, and what notices and writes report
+  pub make-answers : (e base pages : ℕ) → makeCall e base pages now .0 ≡ makeAnswered (makeJudged e base pages (length (l .store)))
+  make-answers e base pages = go (makeJudged e base pages (length now)) ∙ ap (λ (n : ℕ). makeAnswered (makeJudged e base pages n)) (kept calls l .stored)
+    where
+      go : (j : Judged) → made j now .0 ≡ makeAnswered j
+      go (Accepted k) = refl
+      go (Rejected why) = refl
+
   pub insert-answers : (a : ℕ) (rec : List ℕ) → insertCall now a rec .0 ≡ insertAnswered (insertJudged (Sound g) a rec)
   insert-answers a rec = rw (simulated .sound) (go (insertJudged (Sound g) a rec))
     where
@@ -75,8 +82,10 @@ module _ (calls : List Call) (l : Lent) (g : Geometry) (h : List Event) (is : pa
   pub generation-answers : generationCall now ≡ GenerationIs ((insertions h + 1) % 2 ^ 64)
   generation-answers = rw (simulated .sound) (ap GenerationIs (simulated .age))
 
-  pub write-answers : (a n v : ℕ) → writeCall now memory a n v .0 ≡ writeAnswered (writeJudged (Sound g) (length memory) a n) g h a n
-  write-answers a n v = subst (λ (o : Opened). writeCall now memory a n v .0 ≡ writeAnswered (writeJudged o (length memory) a n) g h a n) (simulated .sound) (go (writeJudged (opened now) (length memory) a n) refl)
+  pub write-answers : (a n v : ℕ) → writeCall now memory a n v .0 ≡ writeAnswered (writeJudged (Sound g) (length (l .memory)) a n) g h a n
+  write-answers a n v =
+      go (writeJudged (opened now) (length memory) a n) refl
+      ∙ ap₂ (λ (o : Opened) (m : ℕ). writeAnswered (writeJudged o m a n) g h a n) (simulated .sound) (kept calls l .roomy)
     where
       accepted : (k : Geometry) → k ≡ g → writes.touched k now a (a + n - 1) .0 ≡ reports g h a (a + n - 1)
       accepted k e = subst (λ (z : Geometry). writes.touched z now a (a + n - 1) .0 ≡ reports g h a (a + n - 1)) (sym e) (write-reports g h now simulated a (a + n - 1))

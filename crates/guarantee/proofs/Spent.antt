@@ -20,7 +20,6 @@ use Rattle.history.proofs.Bound.{bound}
 use Rattle.guarantee.specs.Calls.{Call, make, lookup, insert, notice, flush, generation, write, Lent, run}
 use Rattle.guarantee.specs.Past.{Past, unmade, since, pageOf, begun, entered, crossed, wrote, more, told, past, pastOf}
 use Rattle.guarantee.specs.Answers.{report, reports, writeAnswered, anew, spent}
-use Rattle.guarantee.proofs.Run.{kept}
 use Rattle.guarantee.proofs.Guarantee.{notice-answers, write-answers}
 
 abbrev sum : Geometry → List Event → ℕ
@@ -83,13 +82,10 @@ paid (flush ∷ calls) l = go (pastOf calls l) (paid calls l)
 paid (generation ∷ calls) l = paid calls l
 paid (write a n v ∷ calls) l = go (pastOf calls l) refl (paid calls l)
   where
-    room : length (run calls l .memory) ≡ length (l .memory)
-    room = kept calls l .roomy
-
     go : (p : Past) → pastOf calls l ≡ p → Paid p (spent calls l) → Paid (more (λ g h. wrote (writeJudged (Sound g) (length (l .memory)) a n) a n h) p) (writeValue (writeCall (run calls l .store) (run calls l .memory) a n v .0) + spent calls l)
     go unmade e i = tt
     go (since g h) e i =
-        ap₂ _+_ (ap writeValue (write-answers calls l g h e a n v ∙ ap (λ (z : ℕ). writeAnswered (writeJudged (Sound g) z a n) g h a n) room)) i
+        ap₂ _+_ (ap writeValue (write-answers calls l g h e a n v)) i
         ∙ answered g h (writeJudged (Sound g) (length (l .memory)) a n) a n
 
 module _ (calls : List Call) (l : Lent) (g : Geometry) (h : List Event) (is : pastOf calls l ≡ since g h) where

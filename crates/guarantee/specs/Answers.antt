@@ -9,6 +9,8 @@ use Rattle.store.specs.Layout.{slotOf}
 use Rattle.store.specs.declared.Geometry.{Geometry}
 use Rattle.cache.specs.Answers.{noticeValue}
 use Rattle.cache.specs.Calls.{makeJudged, noticeCall}
+use Rattle.cache.specs.declared.MakeAnswer.{MakeAnswer}
+use Rattle.cache.specs.declared.MakeAnswer.the-variants.{Made, MakeRefused}
 use Rattle.cache.specs.declared.InsertAnswer.{InsertAnswer}
 use Rattle.cache.specs.declared.InsertAnswer.the-variants.{Inserted, InsertRefused}
 use Rattle.cache.specs.declared.Judged.{Judged}
@@ -29,6 +31,10 @@ report g h p = record { examined = examined (slotOf g) pageOf (2 ^ g .e) h p }
 abbrev pub reports : Geometry → List Event → ℕ → ℕ → Report
 reports g h a b =
     cond (eqb (pageOf a) (pageOf b)) (report g h (pageOf a)) (summed (report g h (pageOf a)) (report g (touched (pageOf a) ∷ h) (pageOf b)))
+
+abbrev pub makeAnswered : Judged → MakeAnswer
+makeAnswered (Accepted g) = Made
+makeAnswered (Rejected why) = MakeRefused why
 
 abbrev pub insertAnswered : Judged → InsertAnswer
 insertAnswered (Accepted g) = Inserted
