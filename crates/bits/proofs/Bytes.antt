@@ -102,11 +102,6 @@ le-cons n b m h e =
     let high : (b + 256 * m) / 256 ≡ m = omega arith in
     rw (low, high, e)
 
--- behind the first of two lists
-pub patch-behind : (xs ys : List ℕ) (at : ℕ) (p : List ℕ) → length xs ≡ at → patch (xs ++ ys) at p ≡ xs ++ (p ++ drop (length p) ys)
-unfolding patch
-patch-behind xs ys at p l = rw (take-at, ← drop-drop (length p) at (xs ++ ys), drop-at)
-
 pub length-part : (s : List ℕ) (at n : ℕ) → at + n ≤ length s → length (part s at n) ≡ n
 unfolding part
 length-part s at n h = simp (length-take, length-drop) (omega arith)
