@@ -3,7 +3,7 @@
 use mathlib.Core.Path.{_≡_, refl, sym, ap, _∙_}
 use mathlib.Core.Bool.{Bool, true, false, cond}
 use mathlib.Core.List.{List, _++_, append-assoc}
-use Prim.Native.Nat.{ℕ, zero, suc, _+_, _-_, _*_, _/_, _≤_}
+use Prim.Native.Nat.{ℕ, zero, suc, _+_, _-_, _*_, _/_, _≤_, _<_}
 use native.Mathlib.Omega.{arith}
 use native.Mathlib.Nat.{mul-suc, mul-zero}
 use lib.Dec.{eqb}
@@ -13,6 +13,7 @@ use Rattle.bits.proofs.Bytes.{length-le, length-patch, length-part, le-zero, le
 use Rattle.store.specs.Layout.{signature, header, front}
 use Rattle.store.specs.Places.{emptyPlace, emptied, vacated, eachPlace, copies}
 use Rattle.store.specs.declared.Geometry.{Geometry}
+use Rattle.store.proofs.Known.{after}
 
 -- zeros with eight bytes of 255 over them
 pub empty-made : (z : ℕ) → 8 ≤ z → patch (replicate z 0) 0 (le 8 0xFFFF_FFFF_FFFF_FFFF) ≡ emptyPlace z
@@ -49,6 +50,17 @@ module _ (f : List ℕ → List ℕ) (first z : ℕ) (keeps : (p : List ℕ) →
       let p = part (eachPlace f first z n s) (first + z * n) z in
       let k : length (f p) ≡ z = keeps p (length-part (eachPlace f first z n s) (first + z * n) z (omega arith)) in
       length-patch (eachPlace f first z n s) (first + z * n) (f p) (omega arith) ∙ l
+
+-- a loop over n places, after i turns: the first i are made, and `at` is where the next begins
+abbrev pub Walking : (List ℕ → List ℕ) → ℕ → ℕ → ℕ → List ℕ → List ℕ → ℕ → ℕ → Type 0
+Walking make first z n s store i at = (i ≤ n) × (at ≡ first + z * i) × (store ≡ eachPlace make first z i s) × (length store ≡ length s)
+
+pub walking-begins : (make : List ℕ → List ℕ) (first z n : ℕ) (s : List ℕ) → Walking make first z n s s 0 first
+unfolding eachPlace
+walking-begins make first z n s = (omega arith, omega (arith, mul-zero z), refl, refl)
+
+pub walking-fits : (make : List ℕ → List ℕ) (first z n : ℕ) (s store : List ℕ) (i at : ℕ) → Walking make first z n s store i at → i < n → first + z * n ≤ length s → at + z ≤ length store
+walking-fits make first z n s store i at w h f = let next = after z i n h in omega (arith, w .1, w .3)
 
 pub length-copies : (n : ℕ) (p : List ℕ) (z : ℕ) → length p ≡ z → length (copies n p) ≡ z * n
 unfolding copies

@@ -1,35 +1,27 @@
 -- `store::vacate_places` meets its contract: after i turns the first i places have the address, and `at` is where the next begins.
 -- Assumes nothing.
-use mathlib.Core.Path.{_≡_, refl, sym, ap₂, _∙_}
+use mathlib.Core.Path.{_≡_, sym, ap₂, _∙_}
 use mathlib.Core.List.{List}
 use Prim.Native.Nat.{ℕ, _+_, _-_, _*_, _≤_}
 use native.Mathlib.Omega.{arith}
-use native.Mathlib.Nat.{mul-suc, mul-zero}
+use native.Mathlib.Nat.{mul-suc}
 use native.Mathlib.Numerals.{add-one}
 use lib.ListN.{length}
 use Rattle.bits.specs.Bytes.{le, patch}
 use Rattle.bits.proofs.Bytes.{length-le, patch-part}
 use Rattle.store.specs.Places.{vacated, eachPlace}
-use Rattle.store.proofs.Known.{after}
-use borrow.Author.Needs.{needs}
+use Rattle.store.proofs.Places.{Walking, walking-begins, walking-fits}
 use Rattle.store.proofs.vacate_places.Statement.{statement}
 use Rattle.store.proofs.vacate_places.Tie as tie
 
 abbrev Inv-loop : tie.InvT-loop
-Inv-loop store₀ first size n i₀ at₀ store i at = (i ≤ n) × (at ≡ first + size * i) × (store ≡ eachPlace vacated first size i store₀) × (length store ≡ length store₀)
+Inv-loop store₀ first size n i₀ at₀ store i at = Walking vacated first size n store₀ store i at
 
 abbrev μ-loop : tie.MeasureT-loop
 μ-loop store₀ first size n i₀ at₀ store i at = n - i
 
-begun : tie.Need-loop-holds Inv-loop μ-loop
-unfolding eachPlace
-begun c = (search needs, omega (arith, mul-zero (c .before .args .size)), refl, refl)
-
 room : (c : tie.In-loop Inv-loop μ-loop) → c .before .loop .at + c .before .before .before .args .size ≤ length (c .before .loop .store)
-room c =
-    let a = c .before .before .before .args in
-    let w = after (a .size) (c .before .loop .i) (a .n) (c .loop-test .taken) in
-    omega (arith, c .before .before .before .pre)
+room c = walking-fits _ _ _ _ _ _ _ _ (c .before .loop .inv) (c .loop-test .taken) (c .before .before .before .pre .1)
 
 -- one more place has the address
 turned : tie.Need-loop-again Inv-loop μ-loop
@@ -54,7 +46,7 @@ turned c =
 pub vacate-places-spec : {M : Type 1} → statement M
 vacate-places-spec =
     tie.close
-    (tie.spec Inv-loop μ-loop (λ c. begun c)
+    (tie.spec Inv-loop μ-loop (λ c. walking-begins _ _ _ _ _)
     (λ c κs. let h = room (c .before) in omega (arith, c .before .before .before .before .pre))
     (λ c. let h = room (c .before .before .before .before) in omega arith)
     (λ c. omega arith) (λ c. omega arith) (λ c. turned c)
