@@ -1,3 +1,2 @@
 -- How we know that the ALU keeps its promises.
 pub mod Bytes
-pub mod Only

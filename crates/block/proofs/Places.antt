@@ -8,7 +8,7 @@ use native.Mathlib.Omega.{arith}
 use lib.ListN.{length, take, drop, length-drop}
 use lib.Seq.{length-take-le, take-add, drop-at, drop-drop}
 use borrow.Author.Tests.{eqb-true, leb-true, ltb-true}
-use Rattle.block.specs.Memory.{goodMemory, canHold, restOfPage}
+use Rattle.block.specs.Memory.{goodMemory, inMemory, restOfPage}
 use Rattle.bits.proofs.Tests.{and-both}
 
 pub record Geometry (size base : ℕ) : Type 0 where
@@ -26,7 +26,7 @@ geometry e =
     let d = and-both _ _ (c .0) in
     record { whole = eqb-true _ _ (d .0); based = eqb-true _ _ (d .1); least = leb-true _ _ (c .1); most = leb-true _ _ (b .1); top = leb-true _ _ (a .1) }
 
-pub held : (size base address : ℕ) → canHold size base address ≡ true → (base ≤ address) × (address < base + size)
+pub held : (size base address : ℕ) → inMemory size base address ≡ true → (base ≤ address) × (address < base + size)
 held size base address e = let a = and-both _ _ e in (leb-true _ _ (a .0), ltb-true _ _ (a .1))
 
 -- a part of the page that starts at the address, as the code lends it

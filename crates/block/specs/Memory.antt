@@ -10,9 +10,9 @@ use lib.ListN.{take, drop}
 abbrev pub goodMemory : ℕ → ℕ → Bool
 goodMemory size base = eqb (size % 4096) 0 && eqb (base % 4096) 0 && leb 4096 size && leb size (65536 * 4096) && leb (base + size) (2 ^ 56)
 
--- the addresses that can hold a block: all of memory, odd ones too
-abbrev pub canHold : ℕ → ℕ → ℕ → Bool
-canHold size base address = leb base address && ltb address (base + size)
+-- the address lies in memory
+abbrev pub inMemory : ℕ → ℕ → ℕ → Bool
+inMemory size base address = leb base address && ltb address (base + size)
 
 -- the bytes of an address's page, and those of them from the address on
 abbrev pub page : List ℕ → ℕ → ℕ → List ℕ

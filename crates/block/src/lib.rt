@@ -2,7 +2,7 @@
 ghost use mathlib.Core.Path.{_≡_};
 ghost use Prim.Native.Nat.{_≤_};
 ghost use lib.ListN.{length, drop};
-ghost use Rattle.block.specs.Memory.{goodMemory, canHold};
+ghost use Rattle.block.specs.Memory.{goodMemory, inMemory};
 ghost use Rattle.block.specs.Record.{headBytes};
 ghost use Rattle.block.specs.WellFormed.{allZero, jumps, placed, opsWellFormed, wellFormed};
 use op::OpRecord;
@@ -59,9 +59,9 @@ pub fn good_memory(size: u64, base: u64) -> bool
     base <= TOP - size
 }
 
-// Whether a block may stand at an address.
-pub fn can_hold(size: u64, base: u64, address: u64) -> bool
-    ensures { λ r. ⌜ r ≡ canHold size base address ⌝ }
+// Whether an address lies in memory.
+pub fn in_memory(size: u64, base: u64, address: u64) -> bool
+    ensures { λ r. ⌜ r ≡ inMemory size base address ⌝ }
 {
     if address < base {
         return false;

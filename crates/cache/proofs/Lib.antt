@@ -1,4 +1,3 @@
--- What the calls' checks have shown, what the calls leave of a store's view, and that each call has one outcome.
+-- What the calls' checks have shown, and what the calls leave of a store's view.
 pub mod Checks
-pub mod Once
 pub mod View

@@ -6,7 +6,7 @@ use mathlib.Core.List.{List, [], _++_}
 use lib.Dec.{eqb}
 use lib.ListN.{length, take}
 use Rattle.bits.specs.Bytes.{doublewordAt, part, patch}
-use Rattle.block.specs.Memory.{canHold}
+use Rattle.block.specs.Memory.{inMemory}
 use Rattle.block.specs.WellFormed.{wellFormed}
 use Rattle.store.specs.Layout.{header, inBounds, front, storeSize, geometry, opened, holds, pageOf, slotOf, placeAt, generationOf, bumped}
 use Rattle.store.specs.Places.{pageBit, withBit, emptied, eachPlace, blank}
@@ -46,7 +46,7 @@ makeCall e base pages s = made (makeJudged e base pages (length s)) s
 
 -- Lookup: 1, 9. A hit is the place of the address's slot, where it holds that address.
 abbrev pub mayHold : Geometry → ℕ → Bool
-mayHold g a = canHold (4096 * g .pages) (g .base) a
+mayHold g a = inMemory (4096 * g .pages) (g .base) a
 
 abbrev pub placeOf : Geometry → ℕ → ℕ
 placeOf g a = placeAt g (slotOf g a)

@@ -216,7 +216,7 @@ fn may_hold(g: Geometry, address: u64) -> bool
     requires { ⌜ Bounded g ⌝ }
     ensures { λ r. ⌜ r ≡ mayHold g address ⌝ }
 {
-    block::can_hold(PAGE * g.pages, g.base, address)
+    block::in_memory(PAGE * g.pages, g.base, address)
 }
 
 // Where the block at the address is, if the cache has it.

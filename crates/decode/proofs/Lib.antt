@@ -1,3 +1,2 @@
--- What the two decode calls share, and that each has one outcome.
+-- What the two decode calls share.
 pub mod Answered
-pub mod Once

@@ -1,7 +1,6 @@
 -- Laws of forming, in any reading.
 pub mod Kept
 pub mod Loop
-pub mod Once
 pub mod Page
 pub mod Seal
 pub mod Sound

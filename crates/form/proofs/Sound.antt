@@ -16,7 +16,7 @@ use Rattle.op.specs.declared.Decoded.the-variants.{Some}
 use Rattle.op.proofs.Proper.{Proper, proper-well}
 use Rattle.word.proofs.Read.{word-op}
 use Rattle.halfword.proofs.Read.{half-op}
-use Rattle.block.specs.Memory.{goodMemory, canHold, page, restOfPage}
+use Rattle.block.specs.Memory.{goodMemory, inMemory, page, restOfPage}
 use Rattle.block.specs.Record.{Insn, insn, opRecords, byteLen, blockRecord}
 use Rattle.block.specs.WellFormed.{allZero, jumps, opsWellFormed, wellFormed}
 use Rattle.block.proofs.Places.{Geometry, geometry, held}
@@ -117,7 +117,7 @@ run-well s address ops run h some short =
 
 -- the record of a block that forms is well formed for its address
 pub formed-well : (r : Reading) → Sound r → (memory : List ℕ) (base address : ℕ) → ((i : ℕ) → getD memory i 0 < 256)
-    → goodMemory (length memory) base ≡ true → canHold (length memory) base address ≡ true → (length (formed r memory base address) ≡ 0 → ⊥)
+    → goodMemory (length memory) base ≡ true → inMemory (length memory) base address ≡ true → (length (formed r memory base address) ≡ 0 → ⊥)
     → wellFormed (blockRecord address (formed r memory base address)) address ≡ true
 formed-well r sound memory base address byte good holds some =
     let s = restOfPage memory base address in

@@ -5,7 +5,7 @@ use mathlib.Core.Bool.{cond}
 use mathlib.Core.List.{List, [], _∷_}
 use lib.Dec.{eqb}
 use lib.ListN.{length}
-use Rattle.block.specs.Memory.{goodMemory, canHold}
+use Rattle.block.specs.Memory.{goodMemory, inMemory}
 use Rattle.block.specs.Record.{Insn, blockRecord}
 use Rattle.form.specs.Forming.{Reading, formed}
 use Rattle.form.specs.declared.FormAnswer.{FormAnswer}
@@ -26,6 +26,6 @@ unfoldable pub formCall : Reading → List ℕ → ℕ → ℕ → List ℕ → 
 formCall reading memory base address lent =
     cond (goodMemory (length memory) base)
     (cond (eqb (length lent) 1040)
-    (cond (canHold (length memory) base address) (recordOrNone address (formed reading memory base address) lent) (3, lent))
+    (cond (inMemory (length memory) base address) (recordOrNone address (formed reading memory base address) lent) (3, lent))
     (6, lent))
     (2, lent)

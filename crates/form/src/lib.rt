@@ -149,7 +149,7 @@ pub fn form(memory: &[u8], base: u64, address: u64, lent: &mut [u8]) -> FormAnsw
         if lent.len() != BlockRecord::LEN {
             return FormAnswer::WrongRecordBuffer;
         }
-        if block::can_hold(size, base, address) {
+        if block::in_memory(size, base, address) {
             let from = (address - base) as usize;
             let to = from + (block::PAGE - address % block::PAGE) as usize;
             return form_rest(&memory[from..to], address, lent);

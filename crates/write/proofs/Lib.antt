@@ -1,3 +1,2 @@
--- What the checks of a write have shown, and that a write has one outcome.
+-- What the checks of a write have shown.
 pub mod Granted
-pub mod Once

@@ -7,7 +7,7 @@ use Prim.Native.Nat.{ℕ, _+_, _-_, _%_, _≤_, _<_}
 use native.Mathlib.Omega.{arith}
 use lib.ListN.{length, take, drop}
 use borrow.Author.Tests.{eq-eqb, ne-eqb}
-use Rattle.block.specs.Memory.{goodMemory, canHold}
+use Rattle.block.specs.Memory.{goodMemory, inMemory}
 use Rattle.block.proofs.Places.{Geometry, geometry, held, rest-is}
 use Rattle.form.specs.Forming.{rust, opsFrom}
 use Rattle.form.specs.Call.{recordOrNone, formCall}
@@ -31,8 +31,8 @@ Address c = c .before .before .before .before .before .before .before .args .add
 good : (c : Here) → goodMemory (Size c) (Base c) ≡ true
 good c = sym (c .before .before .before .before .good-memory .ensures) ∙ c .before .before .before .if1 .taken
 
-holds : (c : Here) → canHold (Size c) (Base c) (Address c) ≡ true
-holds c = sym (c .before .can-hold .ensures) ∙ c .if3 .taken
+holds : (c : Here) → inMemory (Size c) (Base c) (Address c) ≡ true
+holds c = sym (c .before .in-memory .ensures) ∙ c .if3 .taken
 
 inside : (c : Here) → (Base c ≤ Address c) × (Address c < Base c + Size c) × Geometry (Size c) (Base c)
 inside c = let h = held (Size c) (Base c) (Address c) (holds c) in (h .0, h .1, geometry (good c))
@@ -60,5 +60,5 @@ form-spec =
     let bytes = ap (λ (n : ℕ). take n (drop from (start .memory .now))) width ∙ rest-is (start .memory .now) (start .base) (start .address) (known .2 .based) (known .0) (omega arith) in
     rw (good here, eq-eqb _ _ (here .before .before .if2 .left), holds here)
     (c .before .before .form-rest .ensures ∙ ap (λ (s : List ℕ). recordOrNone (start .address) (opsFrom rust s 64 0) (start .lent .now)) bytes))
-    (λ c. rw (sym (c .before .before .before .before .good-memory .ensures) ∙ c .before .before .before .if1 .taken, eq-eqb _ _ (c .before .before .if2 .left), sym (c .before .can-hold .ensures) ∙ c .if3 .left))
+    (λ c. rw (sym (c .before .before .before .before .good-memory .ensures) ∙ c .before .before .before .if1 .taken, eq-eqb _ _ (c .before .before .if2 .left), sym (c .before .in-memory .ensures) ∙ c .if3 .left))
     (λ c. rw (sym (c .before .good-memory .ensures) ∙ c .if1 .left)))

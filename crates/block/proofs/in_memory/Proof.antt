@@ -1,12 +1,12 @@
--- `block::can_hold` meets its contract: a difference tested in place of a sum.
+-- `block::in_memory` meets its contract: a difference tested in place of a sum.
 -- Assumes nothing.
 use borrow.Author.Tests.{le-leb, lt-leb}
 use Rattle.block.proofs.Tests.{below}
-use Rattle.block.proofs.can_hold.Statement.{statement}
-use Rattle.block.proofs.can_hold.Tie as tie
+use Rattle.block.proofs.in_memory.Statement.{statement}
+use Rattle.block.proofs.in_memory.Tie as tie
 
-pub can-hold-spec : {M : Type 1} → statement M
-can-hold-spec =
+pub in-memory-spec : {M : Type 1} → statement M
+in-memory-spec =
     tie.close
     (tie.spec
     (λ c. simp (lt-leb _ _ (c .if1 .taken)))

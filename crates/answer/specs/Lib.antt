@@ -1,0 +1,2 @@
+-- What answers mean, in document 01's numbers.
+pub mod Answer
