@@ -1,17 +1,20 @@
--- Demand 3. After any calls on any bytes, from the last accepted Make on: what each call answers, by the calls since then and no byte of the store.
+-- Demand 3. After any calls on a store that stands for a past, from the last accepted Make on: what each call answers, by the past that the calls tell and
+-- no byte of the store. For a store with no past, `unmade`, the first bytes are any.
 -- Assumes nothing.
-use mathlib.Core.Path.{_≡_, refl, sym, ap, ap₂, subst, _∙_}
-use mathlib.Core.List.{List}
-use mathlib.Core.Option.{some}
+use mathlib.Core.Path.{_≡_, refl, sym, ap, subst, _∙_}
+use mathlib.Core.List.{List, [], _++_}
+use mathlib.Core.Option.{Option, none, some}
 use Prim.Native.Nat.{ℕ, _+_, _-_, _%_, _^_}
+use native.Mathlib.Omega.{arith}
 use lib.ListN.{length}
 use Rattle.bits.proofs.Tests.{not-true}
 use Rattle.store.specs.Layout.{opened, slotOf}
 use Rattle.store.specs.declared.Geometry.{Geometry}
-use Rattle.store.specs.declared.Opened.{Opened}
 use Rattle.store.specs.declared.Opened.the-variants.{Sound}
-use Rattle.cache.specs.Calls.{makeJudged, made, makeCall, insertJudged, insertCall, noticeCall, flushCall, generationCall}
+use Rattle.cache.specs.Answers.{lookupNumber}
+use Rattle.cache.specs.Calls.{makeJudged, made, makeCall, lookupCall, insertJudged, insertCall, noticeCall, flushCall, generationCall}
 use Rattle.cache.specs.Calls as cache
+use Rattle.cache.specs.declared.LookupAnswer.{LookupAnswer}
 use Rattle.cache.specs.declared.NoticeAnswer.the-variants.{Noticed}
 use Rattle.cache.specs.declared.FlushAnswer.the-variants.{Flushed}
 use Rattle.cache.specs.declared.GenerationAnswer.the-variants.{GenerationIs}
@@ -20,54 +23,81 @@ use Rattle.cache.specs.declared.Judged.the-variants.{Accepted, Rejected}
 use Rattle.write.specs.Write.{writeJudged, written, writeCall}
 use Rattle.write.specs.Write as writes
 use Rattle.write.specs.declared.WriteAnswer.the-variants.{Written}
-use Rattle.write.proofs.Granted.{write-granted}
 use Rattle.history.specs.History.{Event, insertions, shown, marked, Lives, Marked}
-use Rattle.history.proofs.Sentences.{shown-lives, lives-shown, marked-is, is-marked}
-use Rattle.guarantee.specs.Calls.{Call, Lent, run, lookedUp}
-use Rattle.guarantee.specs.Past.{Past, since, pageOf, pastOf}
-use Rattle.guarantee.specs.Answers.{report, reports, makeAnswered, insertAnswered, writeAnswered}
-use Rattle.guarantee.proofs.Simulation.{Simulates, notice-reports, write-reports}
-use Rattle.guarantee.proofs.Lookup.{lookup-shows}
-use Rattle.guarantee.proofs.Run.{Follows, kept, sound-same}
+use Rattle.history.proofs.Sentences.{shown-lives, lives-shown, marked-is, is-marked, shown-was}
+use Rattle.guarantee.specs.Held.{recordIn}
+use Rattle.guarantee.specs.Calls.{write, Call, Lent, run, lookedUp}
+use Rattle.guarantee.specs.Past.{Past, since, pageOf, ifAccepted, crossed, events, pastOf}
+use Rattle.guarantee.specs.Stands.{Possible, Stands, Follows}
+use Rattle.guarantee.specs.Answers.{lookupAnswered, partFor, report, reports, makeAnswered, insertAnswered, writeAnswered}
+use Rattle.guarantee.proofs.Simulation.{fits-accepted, notice-reports, write-reports}
+use Rattle.guarantee.proofs.Lookup.{lookup-is, lookup-returns}
+use Rattle.guarantee.proofs.Run.{write-own, kept}
 
-module _ (calls : List Call) (l : Lent) (g : Geometry) (h : List Event) (is : pastOf calls l ≡ since g h) where
+-- a write in a store that stands for a past
+pub write-is : (g : Geometry) (h : List Event) (s : List ℕ) → Stands g h s → (m : List ℕ) (a n v : ℕ) → writeCall s m a n v .0 ≡ writeAnswered (writeJudged (Sound g) (length m) a n) (reports g h (events (length m) g (write a n v)))
+unfolding events
+write-is g h s y m a n v = rw (y .sound) (go (writeJudged (Sound g) (length m) a n) refl)
+  where
+    go : (j : Judged) → writeJudged (Sound g) (length m) a n ≡ j → written j s m a n v .0 ≡ writeAnswered j (reports g h (ifAccepted j (λ k. crossed a (a + n - 1)) []))
+    go (Accepted k) e = ap Written (subst (λ (z : Geometry). writes.touched z s a (a + n - 1) .0 ≡ reports g h (crossed a (a + n - 1))) (sym (write-own g h s y (length m) a n k e .0)) (write-reports g h s y a (a + n - 1)))
+    go (Rejected why) e = refl
+
+module _ (p : Past) (l : Lent) (start : Follows p (l .store)) (calls : List Call) (g : Geometry) (h : List Event) (is : pastOf p calls l ≡ since g h) where
   abbrev now : List ℕ
   now = run calls l .store
 
   abbrev memory : List ℕ
   memory = run calls l .memory
 
-  pub simulated : Simulates g h now
-  simulated = subst (λ (p : Past). Follows p now) is (kept calls l .follows)
+  pub stands : Stands g h now
+  stands = subst (λ (z : Past). Follows z now) is (kept p l start calls .follows)
 
-  -- a lookup shows what the past shows, byte for byte
-  pub hits : (a : ℕ) → lookedUp (run calls l) a ≡ shown (slotOf g) pageOf h a
-  hits a = lookup-shows g h now simulated a
+  -- a lookup's answer: its slot's place where the past shows a record, nothing found where it shows none
+  pub lookup-answers : (a : ℕ) → lookupCall now a ≡ lookupAnswered g a (shown (slotOf g) pageOf h a)
+  lookup-answers a = lookup-is g h now stands a
 
-  -- in demand 3's words: a lookup hits exactly when its address had an accepted insertion, and since came none in its slot, no notice or write in its page, and no flush
-  pub hit-lives : (a : ℕ) (r : List ℕ) → lookedUp (run calls l) a ≡ some r → Lives (slotOf g) pageOf h a r
-  hit-lives a r e = shown-lives (slotOf g) pageOf h a r (sym (hits a) ∙ e)
+  -- and the part that it returns: what a place holds for the record that the past shows, byte for byte
+  pub hits : (a : ℕ) → lookedUp (run calls l) a ≡ partFor g (shown (slotOf g) pageOf h a)
+  hits a = lookup-returns g h now stands a
 
-  pub lives-hit : (a : ℕ) (r : List ℕ) → Lives (slotOf g) pageOf h a r → lookedUp (run calls l) a ≡ some r
-  lives-hit a r e = hits a ∙ lives-shown (slotOf g) pageOf h a r e
+  -- with number 0 the past shows the record that the part shows
+  pub hit-shown : (a : ℕ) → lookupNumber (lookupCall now a) ≡ 0 → shown (slotOf g) pageOf h a ≡ some (recordIn g (lookedUp (run calls l) a))
+  hit-shown a e = go (shown (slotOf g) pageOf h a) refl (ap lookupNumber (sym (lookup-answers a)) ∙ e)
+    where
+      go : (o : Option (List ℕ)) → shown (slotOf g) pageOf h a ≡ o → lookupNumber (lookupAnswered g a o) ≡ 0 → o ≡ some (recordIn g (lookedUp (run calls l) a))
+      go (some r) k z =
+          let f = fits-accepted g now (stands .sound) a r (shown-was (slotOf g) pageOf (Possible g) h (stands .possible) a r k) in
+          ap some (sym (ap (recordIn g) (hits a ∙ ap (partFor g) k) ∙ f .back))
+      go none k z = absurd (omega (arith, z))
+
+  -- in demand 3's words: a lookup hits exactly when its address had an accepted insertion, and since came none in its slot, no notice or write in its page, and no flush; and it shows that record
+  pub hit-lives : (a : ℕ) → lookupNumber (lookupCall now a) ≡ 0 → Lives (slotOf g) pageOf h a (recordIn g (lookedUp (run calls l) a))
+  hit-lives a e = shown-lives (slotOf g) pageOf h a _ (hit-shown a e)
+
+  pub lives-hit : (a : ℕ) (r : List ℕ) → Lives (slotOf g) pageOf h a r → (lookupNumber (lookupCall now a) ≡ 0) × (recordIn g (lookedUp (run calls l) a) ≡ r)
+  lives-hit a r e =
+      let k = lives-shown (slotOf g) pageOf h a r e in
+      let f = fits-accepted g now (stands .sound) a r (shown-was (slotOf g) pageOf (Possible g) h (stands .possible) a r k) in
+      (ap lookupNumber (lookup-answers a ∙ ap (lookupAnswered g a) k), ap (recordIn g) (hits a ∙ ap (partFor g) k) ∙ f .back)
 
   -- which calls are accepted, and what notices and writes report
   pub make-answers : (e base pages : ℕ) → makeCall e base pages now .0 ≡ makeAnswered (makeJudged e base pages (length (l .store)))
-  make-answers e base pages = go (makeJudged e base pages (length now)) ∙ ap (λ (n : ℕ). makeAnswered (makeJudged e base pages n)) (kept calls l .stored)
+  make-answers e base pages = go (makeJudged e base pages (length now)) ∙ ap (λ (n : ℕ). makeAnswered (makeJudged e base pages n)) (kept p l start calls .stored)
     where
       go : (j : Judged) → made j now .0 ≡ makeAnswered j
       go (Accepted k) = refl
       go (Rejected why) = refl
 
   pub insert-answers : (a : ℕ) (rec : List ℕ) → insertCall now a rec .0 ≡ insertAnswered (insertJudged (Sound g) a rec)
-  insert-answers a rec = rw (simulated .sound) (go (insertJudged (Sound g) a rec))
+  insert-answers a rec = rw (stands .sound) (go (insertJudged (Sound g) a rec))
     where
       go : (j : Judged) → cache.inserted j now a rec .0 ≡ insertAnswered j
       go (Accepted k) = refl
       go (Rejected why) = refl
 
   pub notice-answers : (a : ℕ) → noticeCall now a .0 ≡ Noticed (report g h (pageOf a))
-  notice-answers a = rw (simulated .sound) (ap Noticed (notice-reports g h now simulated a))
+  notice-answers a = rw (stands .sound) (ap Noticed (notice-reports g h now stands a))
 
   -- in document 01's words: every slot exactly when the page had an accepted insertion, and since came no notice or write in it, and no flush
   pub examines-all : (a : ℕ) → Marked (slotOf g) pageOf h (pageOf a) → noticeCall now a .0 ≡ Noticed (record { examined = 2 ^ g .e })
@@ -77,19 +107,12 @@ module _ (calls : List Call) (l : Lent) (g : Geometry) (h : List Event) (is : pa
   examines-none a n = notice-answers a ∙ rw (not-true (marked (slotOf g) pageOf h (pageOf a)) (λ e. n (marked-is (slotOf g) pageOf h (pageOf a) e)))
 
   pub flush-answers : flushCall now .0 ≡ Flushed
-  flush-answers = rw (simulated .sound)
+  flush-answers = rw (stands .sound)
 
   pub generation-answers : generationCall now ≡ GenerationIs ((insertions h + 1) % 2 ^ 64)
-  generation-answers = rw (simulated .sound) (ap GenerationIs (simulated .age))
+  generation-answers = rw (stands .sound) (ap GenerationIs (stands .age))
 
-  pub write-answers : (a n v : ℕ) → writeCall now memory a n v .0 ≡ writeAnswered (writeJudged (Sound g) (length (l .memory)) a n) g h a n
+  pub write-answers : (a n v : ℕ) → writeCall now memory a n v .0 ≡ writeAnswered (writeJudged (Sound g) (length (l .memory)) a n) (reports g h (events (length (l .memory)) g (write a n v)))
   write-answers a n v =
-      go (writeJudged (opened now) (length memory) a n) refl
-      ∙ ap₂ (λ (o : Opened) (m : ℕ). writeAnswered (writeJudged o m a n) g h a n) (simulated .sound) (kept calls l .roomy)
-    where
-      accepted : (k : Geometry) → k ≡ g → writes.touched k now a (a + n - 1) .0 ≡ reports g h a (a + n - 1)
-      accepted k e = subst (λ (z : Geometry). writes.touched z now a (a + n - 1) .0 ≡ reports g h a (a + n - 1)) (sym e) (write-reports g h now simulated a (a + n - 1))
-
-      go : (j : Judged) → writeJudged (opened now) (length memory) a n ≡ j → written j now memory a n v .0 ≡ writeAnswered j g h a n
-      go (Accepted k) e = ap Written (accepted k (sound-same k g (sym (write-granted now (length memory) a n k e .sound) ∙ simulated .sound)))
-      go (Rejected why) e = refl
+      write-is g h now stands memory a n v
+      ∙ ap (λ (z : ℕ). writeAnswered (writeJudged (Sound g) z a n) (reports g h (events z g (write a n v)))) (kept p l start calls .roomy)

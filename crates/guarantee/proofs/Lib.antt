@@ -1,4 +1,5 @@
 -- Demand 3: the simulation of a store by its past, and what follows.
+pub mod Held
 pub mod Simulation
 pub mod Lookup
 pub mod Run

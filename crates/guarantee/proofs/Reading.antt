@@ -3,7 +3,6 @@
 use mathlib.Core.Path.{_≡_, refl, sym, ap, _∙_}
 use mathlib.Core.Bool.{Bool, true, false, cond}
 use mathlib.Core.List.{List, [], _∷_}
-use mathlib.Core.Option.{some}
 use Prim.Native.Nat.{ℕ, _*_, _<_}
 use native.Mathlib.Omega.{arith}
 use lib.Dec.{eqb}
@@ -19,12 +18,15 @@ use Rattle.form.proofs.Page.{same-page}
 use Rattle.form.proofs.Sound as readings
 use Rattle.store.specs.declared.Geometry.{Geometry}
 use Rattle.store.specs.declared.Opened.the-variants.{Sound}
-use Rattle.cache.specs.Calls.{insertJudged}
+use Rattle.cache.specs.Answers.{lookupNumber}
+use Rattle.cache.specs.Calls.{lookupCall, insertJudged}
 use Rattle.cache.specs.declared.Judged.the-variants.{Accepted}
 use Rattle.history.specs.History.{Event}
 use Rattle.guarantee.specs.Calls.{Call, Lent, run, lookedUp}
-use Rattle.guarantee.specs.Past.{since, pastOf}
-use Rattle.guarantee.specs.Honest.{Local, forming, Honest}
+use Rattle.guarantee.specs.Held.{recordIn}
+use Rattle.guarantee.specs.Past.{Past, since, pastOf}
+use Rattle.guarantee.specs.Stands.{Follows}
+use Rattle.guarantee.specs.Honest.{Local, forming, Fresh, Honest}
 use Rattle.guarantee.proofs.Fresh.{never-stale}
 
 pub forming-local : (reading : Reading) (lent : List ℕ) → Local (forming reading lent)
@@ -32,8 +34,8 @@ unfolding formCall
 forming-local reading lent g m other a long same = rw (long, same-page reading m other (g .base) a same)
 
 -- never stale, of the Form call itself
-pub never-stale-formed : (reading : Reading) (lent : List ℕ) (calls : List Call) (l : Lent) → Honest (forming reading lent) calls l → (g : Geometry) (h : List Event) → pastOf calls l ≡ since g h
-    → (a : ℕ) (r : List ℕ) → lookedUp (run calls l) a ≡ some r → formCall reading (run calls l .memory) (g .base) a lent ≡ (0, r)
+pub never-stale-formed : (reading : Reading) (lent : List ℕ) (p : Past) (l : Lent) → Follows p (l .store) → Fresh (forming reading lent) p (l .memory) → (calls : List Call) → Honest (forming reading lent) p calls l → (g : Geometry) (h : List Event) → pastOf p calls l ≡ since g h
+    → (a : ℕ) → lookupNumber (lookupCall (run calls l .store) a) ≡ 0 → formCall reading (run calls l .memory) (g .base) a lent ≡ (0, recordIn g (lookedUp (run calls l) a))
 never-stale-formed reading lent = never-stale (forming reading lent) (forming-local reading lent)
 
 -- the premise can be met: from a memory of bytes, as long as the store says, Form gives what Insert accepts

@@ -1,8 +1,8 @@
--- After any calls, on any bytes at first, both buffers have their length, and the store is what its past says.
+-- After any calls, on a store that stands for a past at first, both buffers have their length, and the store stands for the past that the calls tell.
 -- Assumes nothing.
 use mathlib.Core.Path.{_≡_, refl, sym, ap, subst, _∙_}
 use mathlib.Core.Bool.{Bool, true, false, cond}
-use mathlib.Core.List.{List, [], _∷_}
+use mathlib.Core.List.{List, [], _∷_, _++_}
 use Prim.Native.Nat.{ℕ, _+_, _-_, _^_}
 use native.Mathlib.Omega.{arith}
 use lib.Dec.{eqb}
@@ -11,28 +11,29 @@ use borrow.Author.Tests.{eqb-true}
 use Rattle.bits.specs.Bytes.{le, patch}
 use Rattle.bits.proofs.Bytes.{length-le, length-patch}
 use Rattle.bits.proofs.Tests.{and-both}
-use Rattle.block.proofs.Head.{says}
 use Rattle.store.specs.Layout.{header, inBounds, storeSize, geometry, opened, holds, Fitting}
 use Rattle.store.specs.declared.Geometry.{Geometry}
 use Rattle.store.specs.declared.Opened.{Opened}
 use Rattle.store.specs.declared.Opened.the-variants.{Sound, NotAStore}
 use Rattle.store.proofs.Known.{bounds-are}
 use Rattle.store.proofs.View.{fitting-blank, fitting-flushed, header-long}
-use Rattle.cache.specs.Calls.{makeJudged, made, makeCall, mayHold, insertJudged, insertedIn, insertCall, watched, evicted, noticedIn, noticed, noticeCall, flushCall}
+use Rattle.cache.specs.Calls.{makeJudged, made, makeCall, insertJudged, insertedIn, insertCall, watched, evicted, noticedIn, noticed, noticeCall, flushCall}
 use Rattle.cache.specs.Calls as cache
 use Rattle.cache.specs.declared.Refusal.the-variants.{NoStore, BadGeometry}
 use Rattle.cache.specs.declared.Judged.{Judged}
 use Rattle.cache.specs.declared.Judged.the-variants.{Accepted, Rejected}
 use Rattle.cache.specs.declared.Report.{Report}
-use Rattle.cache.proofs.Checks.{opened-fits, opened-size, may-holds, Taken, insert-taken}
-use Rattle.cache.proofs.View.{fitting-evicted, fitting-inserted}
+use Rattle.cache.proofs.Checks.{opened-fits, may-holds, Taken, insert-taken}
+use Rattle.cache.proofs.View.{fitting-evicted}
 use Rattle.write.specs.Write.{writeJudged, andThen, written, writeCall}
 use Rattle.write.specs.Write as writes
 use Rattle.write.proofs.Granted.{Granted, write-granted}
-use Rattle.history.specs.History.{Event, inserted, touched, flushed}
-use Rattle.guarantee.specs.Calls.{Call, make, lookup, insert, notice, flush, generation, write, Lent, done, run}
-use Rattle.guarantee.specs.Past.{Past, unmade, since, pageOf, begun, entered, crossed, wrote, more, told, past}
-use Rattle.guarantee.proofs.Simulation.{Fits, Simulates, make-keeps, flush-keeps, insert-keeps, notice-keeps, write-keeps}
+use Rattle.history.specs.History.{Event, inserted}
+use Rattle.guarantee.specs.Calls.{Use, lookup, insert, notice, flush, generation, write, Call, make, uses, Lent, storing, done, run}
+use Rattle.guarantee.specs.Past.{Past, unmade, since, pageOf, ifAccepted, crossed, events, told, past, pastOf}
+use Rattle.guarantee.specs.Stands.{Stands, Follows}
+use Rattle.guarantee.proofs.Held.{place-long, fitting-inserted}
+use Rattle.guarantee.proofs.Simulation.{make-keeps, flush-keeps, insert-keeps, notice-keeps, write-keeps}
 
 -- no call changes the length of a buffer
 length-make : (e base pages : ℕ) (s : List ℕ) → length (makeCall e base pages s .1) ≡ length s
@@ -50,7 +51,7 @@ length-insert : (s : List ℕ) (a : ℕ) (rec : List ℕ) → length (insertCall
 length-insert s a rec = go (insertJudged (opened s) a rec) refl
   where
     accepted : (g : Geometry) → Taken s a rec g → length (insertedIn g s a rec) ≡ length s
-    accepted g t = let f = opened-fits s g (t .sound) in fitting-inserted g s f a (may-holds g a (t .inner)) rec (t .whole ∙ opened-size s g (t .sound)) .size ∙ sym (f .size)
+    accepted g t = let f = opened-fits s g (t .sound) in fitting-inserted g s f a (may-holds g a (t .inner)) rec (place-long g rec s (t .sound) (t .whole)) .size ∙ sym (f .size)
 
     go : (j : Judged) → insertJudged (opened s) a rec ≡ j → length (cache.inserted j s a rec .1) ≡ length s
     go (Accepted g) e = accepted g (insert-taken s a rec g e)
@@ -102,50 +103,71 @@ module _ (s m : List ℕ) (a n v : ℕ) where
       go (Accepted g) e = accepted g (write-granted s (length m) a n g e)
       go (Rejected why) e = refl
 
-pub sound-same : (k g : Geometry) → Sound k ≡ Sound g → k ≡ g
+length-store : (c : Use) (l : Lent) → length (done c l .1 .store) ≡ length (l .store)
+unfolding done
+length-store (lookup a) l = refl
+length-store (insert a rec) l = length-insert (l .store) a rec
+length-store (notice a) l = length-notice (l .store) a
+length-store flush l = length-flush (l .store)
+length-store generation l = refl
+length-store (write a n v) l = length-write (l .store) (l .memory) a n v
+
+length-room : (c : Use) (l : Lent) → length (done c l .1 .memory) ≡ length (l .memory)
+unfolding done
+length-room (lookup a) l = refl
+length-room (insert a rec) l = refl
+length-room (notice a) l = refl
+length-room flush l = refl
+length-room generation l = refl
+length-room (write a n v) l = length-memory (l .store) (l .memory) a n v
+
+sound-same : (k g : Geometry) → Sound k ≡ Sound g → k ≡ g
 sound-same k g e = cc
 
--- each call keeps a store that is what its past says
-module _ (g : Geometry) (h : List Event) (s : List ℕ) (y : Simulates g h s) where
-  insert-follows : (a : ℕ) (rec : List ℕ) → Simulates g (entered (insertJudged (Sound g) a rec) a rec h) (insertCall s a rec .1)
-  insert-follows a rec = subst (λ (o : Opened). Simulates g (entered (insertJudged o a rec) a rec h) (insertCall s a rec .1)) (y .sound) (go (insertJudged (opened s) a rec) refl)
-    where
-      accepted : (k : Geometry) → k ≡ g → Taken s a rec k → Simulates g (inserted a rec ∷ h) (insertedIn k s a rec)
-      accepted k e t =
-          let fits : Fits g a rec = record { able = ap (λ (z : Geometry). mayHold z a) (sym e) ∙ t .inner; long = t .whole ∙ opened-size s g (y .sound); named = says (t .formed) .0 .addressed } in
-          subst (λ (z : Geometry). Simulates g (inserted a rec ∷ h) (insertedIn z s a rec)) (sym e) (insert-keeps g h s y a rec fits)
+-- each call keeps a store that stands for a past
+module _ (g : Geometry) (h : List Event) (s : List ℕ) (y : Stands g h s) where
+  -- what the store's judges accept is its own geometry
+  pub insert-own : (a : ℕ) (rec : List ℕ) (k : Geometry) → insertJudged (Sound g) a rec ≡ Accepted k → k ≡ g
+  insert-own a rec k e = sound-same k g (sym (insert-taken s a rec k (ap (λ (o : Opened). insertJudged o a rec) (y .sound) ∙ e) .sound) ∙ y .sound)
 
-      go : (j : Judged) → insertJudged (opened s) a rec ≡ j → Simulates g (entered j a rec h) (cache.inserted j s a rec .1)
-      go (Accepted k) e = let t = insert-taken s a rec k e in accepted k (sound-same k g (sym (t .sound) ∙ y .sound)) t
+  pub write-own : (room a n : ℕ) (k : Geometry) → writeJudged (Sound g) room a n ≡ Accepted k → (k ≡ g) × Granted s room a n k
+  write-own room a n k e =
+      let t = write-granted s room a n k (ap (λ (o : Opened). writeJudged o room a n) (y .sound) ∙ e) in
+      (sound-same k g (sym (t .sound) ∙ y .sound), t)
+
+  insert-follows : (a : ℕ) (rec : List ℕ) → Stands g (ifAccepted (insertJudged (Sound g) a rec) (λ k. inserted a rec ∷ []) [] ++ h) (insertCall s a rec .1)
+  insert-follows a rec = rw (y .sound) (go (insertJudged (Sound g) a rec) refl)
+    where
+      accepted : (k : Geometry) → k ≡ g → insertJudged (Sound g) a rec ≡ Accepted k → Stands g (inserted a rec ∷ h) (insertedIn k s a rec)
+      accepted k e j = subst (λ (z : Geometry). Stands g (inserted a rec ∷ h) (insertedIn z s a rec)) (sym e) (insert-keeps g h s y a rec (j ∙ ap Accepted e))
+
+      go : (j : Judged) → insertJudged (Sound g) a rec ≡ j → Stands g (ifAccepted j (λ k. inserted a rec ∷ []) [] ++ h) (cache.inserted j s a rec .1)
+      go (Accepted k) e = accepted k (insert-own a rec k e) e
       go (Rejected why) e = y
 
-  notice-follows : (a : ℕ) → Simulates g (touched (pageOf a) ∷ h) (noticeCall s a .1)
-  notice-follows a = rw (y .sound) (notice-keeps g h s y a)
-
-  flush-follows : Simulates g (flushed ∷ h) (flushCall s .1)
-  flush-follows = rw (y .sound) (flush-keeps g h s y)
-
-  write-follows : (m : List ℕ) (a n v : ℕ) → Simulates g (wrote (writeJudged (Sound g) (length m) a n) a n h) (writeCall s m a n v .1)
-  write-follows m a n v = subst (λ (o : Opened). Simulates g (wrote (writeJudged o (length m) a n) a n h) (writeCall s m a n v .1)) (y .sound) (go (writeJudged (opened s) (length m) a n) refl)
+  write-follows : (m : List ℕ) (a n v : ℕ) → Stands g (ifAccepted (writeJudged (Sound g) (length m) a n) (λ k. crossed a (a + n - 1)) [] ++ h) (writeCall s m a n v .1)
+  write-follows m a n v = rw (y .sound) (go (writeJudged (Sound g) (length m) a n) refl)
     where
-      accepted : (k : Geometry) → k ≡ g → Simulates g (crossed a (a + n - 1) h) (writes.touched k s a (a + n - 1) .1)
-      accepted k e = subst (λ (z : Geometry). Simulates g (crossed a (a + n - 1) h) (writes.touched z s a (a + n - 1) .1)) (sym e) (write-keeps g h s y a (a + n - 1))
-
-      go : (j : Judged) → writeJudged (opened s) (length m) a n ≡ j → Simulates g (wrote j a n h) (written j s m a n v .1)
-      go (Accepted k) e = accepted k (sound-same k g (sym (write-granted s (length m) a n k e .sound) ∙ y .sound))
+      go : (j : Judged) → writeJudged (Sound g) (length m) a n ≡ j → Stands g (ifAccepted j (λ k. crossed a (a + n - 1)) [] ++ h) (written j s m a n v .1)
+      go (Accepted k) e = subst (λ (z : Geometry). Stands g (crossed a (a + n - 1) ++ h) (writes.touched z s a (a + n - 1) .1)) (sym (write-own (length m) a n k e .0)) (write-keeps g h s y a (a + n - 1))
       go (Rejected why) e = y
 
-abbrev pub Follows : Past → List ℕ → Type 0
-Follows unmade s = Unit {0}
-Follows (since g h) s = Simulates g h s
+keeps : (g : Geometry) (h : List Event) (l : Lent) → Stands g h (l .store) → (c : Use) → Stands g (events (length (l .memory)) g c ++ h) (done c l .1 .store)
+unfolding events done
+keeps g h l y (lookup a) = y
+keeps g h l y (insert a rec) = insert-follows g h (l .store) y a rec
+keeps g h l y (notice a) = rw (y .sound) (notice-keeps g h (l .store) y a)
+keeps g h l y flush = rw (y .sound) (flush-keeps g h (l .store) y)
+keeps g h l y generation = y
+keeps g h l y (write a n v) = write-follows g h (l .store) y (l .memory) a n v
 
-make-follows : (e base pages : ℕ) (p : Past) (s : List ℕ) → Follows p s → Follows (begun (makeJudged e base pages (length s)) p) (makeCall e base pages s .1)
+make-follows : (e base pages : ℕ) (p : Past) (s : List ℕ) → Follows p s → Follows (ifAccepted (makeJudged e base pages (length s)) (λ g. since g []) p) (makeCall e base pages s .1)
 make-follows e base pages p s y = go (inBounds e base pages) refl (eqb (length s) (storeSize g))
   where
     g : Geometry
     g = geometry e base pages
 
-    go : (x : Bool) → inBounds e base pages ≡ x → (z : Bool) → Follows (begun (cond x (cond z (Accepted g) (Rejected NoStore)) (Rejected BadGeometry)) p) (made (cond x (cond z (Accepted g) (Rejected NoStore)) (Rejected BadGeometry)) s .1)
+    go : (x : Bool) → inBounds e base pages ≡ x → (z : Bool) → Follows (ifAccepted (cond x (cond z (Accepted g) (Rejected NoStore)) (Rejected BadGeometry)) (λ g. since g []) p) (made (cond x (cond z (Accepted g) (Rejected NoStore)) (Rejected BadGeometry)) s .1)
     go true ex true = make-keeps e base pages ex
     go true ex false = y
     go false ex z = y
@@ -156,42 +178,23 @@ pub record Kept (size room : ℕ) (p : Past) (l : Lent) : Type 0 where
   pub roomy : length (l .memory) ≡ room
   pub follows : Follows p (l .store)
 
-module _ (size room : ℕ) where
-  step : (c : Call) (p : Past) (l : Lent) → Kept size room p l → Kept size room (told size room c p) (done c l)
-  unfolding told done
-  step (make e base pages) p l k = record {
+module _ (size room : ℕ) (p : Past) (l : Lent) (k : Kept size room p l) where
+  made-kept : (e base pages : ℕ) → Kept size room (ifAccepted (makeJudged e base pages size) (λ g. since g []) p) (storing l (makeCall e base pages (l .store) .1))
+  made-kept e base pages = record {
     stored = length-make e base pages (l .store) ∙ k .stored;
     roomy = k .roomy;
-    follows = subst (λ (n : ℕ). Follows (begun (makeJudged e base pages n) p) (makeCall e base pages (l .store) .1)) (k .stored) (make-follows e base pages p (l .store) (k .follows));
+    follows = subst (λ (n : ℕ). Follows (ifAccepted (makeJudged e base pages n) (λ g. since g []) p) (makeCall e base pages (l .store) .1)) (k .stored) (make-follows e base pages p (l .store) (k .follows));
   }
-  step (lookup a) p l k = k
-  step (insert a rec) p l k = record { stored = length-insert (l .store) a rec ∙ k .stored; roomy = k .roomy; follows = go p (k .follows) }
-    where
-      go : (p : Past) → Follows p (l .store) → Follows (more (λ g h. entered (insertJudged (Sound g) a rec) a rec h) p) (insertCall (l .store) a rec .1)
-      go unmade y = tt
-      go (since g h) y = insert-follows g h (l .store) y a rec
-  step (notice a) p l k = record { stored = length-notice (l .store) a ∙ k .stored; roomy = k .roomy; follows = go p (k .follows) }
-    where
-      go : (p : Past) → Follows p (l .store) → Follows (more (λ g h. touched (pageOf a) ∷ h) p) (noticeCall (l .store) a .1)
-      go unmade y = tt
-      go (since g h) y = notice-follows g h (l .store) y a
-  step flush p l k = record { stored = length-flush (l .store) ∙ k .stored; roomy = k .roomy; follows = go p (k .follows) }
-    where
-      go : (p : Past) → Follows p (l .store) → Follows (more (λ g h. flushed ∷ h) p) (flushCall (l .store) .1)
-      go unmade y = tt
-      go (since g h) y = flush-follows g h (l .store) y
-  step generation p l k = k
-  step (write a n v) p l k = record {
-    stored = length-write (l .store) (l .memory) a n v ∙ k .stored;
-    roomy = length-memory (l .store) (l .memory) a n v ∙ k .roomy;
-    follows = subst (λ (z : ℕ). Follows (more (λ g h. wrote (writeJudged (Sound g) z a n) a n h) p) (writeCall (l .store) (l .memory) a n v .1)) (k .roomy) (go p (k .follows));
-  }
-    where
-      go : (p : Past) → Follows p (l .store) → Follows (more (λ g h. wrote (writeJudged (Sound g) (length (l .memory)) a n) a n h) p) (writeCall (l .store) (l .memory) a n v .1)
-      go unmade y = tt
-      go (since g h) y = write-follows g h (l .store) y (l .memory) a n v
 
-pub kept : (calls : List Call) (l : Lent) → Kept (length (l .store)) (length (l .memory)) (past (length (l .store)) (length (l .memory)) calls) (run calls l)
+  used-kept : (c : Use) → Kept size room (told room c p) (done c l .1)
+  used-kept c = record { stored = length-store c l ∙ k .stored; roomy = length-room c l ∙ k .roomy; follows = go p (k .follows) }
+    where
+      go : (p : Past) → Follows p (l .store) → Follows (told room c p) (done c l .1 .store)
+      go unmade y = tt
+      go (since g h) y = subst (λ (n : ℕ). Stands g (events n g c ++ h) (done c l .1 .store)) (k .roomy) (keeps g h l y c)
+
+pub kept : (p : Past) (l : Lent) → Follows p (l .store) → (calls : List Call) → Kept (length (l .store)) (length (l .memory)) (pastOf p calls l) (run calls l)
 unfolding past run
-kept [] l = record { stored = refl; roomy = refl; follows = tt }
-kept (c ∷ calls) l = step (length (l .store)) (length (l .memory)) c (past (length (l .store)) (length (l .memory)) calls) (run calls l) (kept calls l)
+kept p l y [] = record { stored = refl; roomy = refl; follows = y }
+kept p l y (make e base pages ∷ calls) = made-kept (length (l .store)) (length (l .memory)) (pastOf p calls l) (run calls l) (kept p l y calls) e base pages
+kept p l y (uses c ∷ calls) = used-kept (length (l .store)) (length (l .memory)) (pastOf p calls l) (run calls l) (kept p l y calls) c

@@ -1,8 +1,9 @@
--- After any calls a store is what its past says: a place for each slot, a bit for each page. Each change of a store keeps that.
+-- A store that stands for a past keeps doing so: what each event does to a store is what it adds to the past.
 -- Assumes nothing.
-use mathlib.Core.Path.{_≡_, refl, sym, ap, ap₂, _∙_}
+use mathlib.Core.Path.{_≡_, refl, sym, ap, ap₂, subst, _∙_}
 use mathlib.Core.Bool.{Bool, true, false, cond, _&&_, _||_, not}
 use mathlib.Core.List.{List, [], _∷_, _++_}
+use mathlib.Core.Option.{none, some}
 use Prim.Native.Nat.{ℕ, suc, _+_, _-_, _*_, _/_, _%_, _^_, _≤_, _<_}
 use native.Mathlib.Omega.{arith}
 use native.Mathlib.Nat.{mod-add-mod}
@@ -15,46 +16,66 @@ use Rattle.bits.proofs.Tests.{and-both, true-false}
 use Rattle.store.specs.Layout.{header, inBounds, geometry, opened, holds, slotOf, generationOf, Bounded, Fitting}
 use Rattle.store.specs.Places.{pageBit, emptyPlace, emptied, blank}
 use Rattle.store.specs.declared.Geometry.{Geometry}
+use Rattle.store.specs.declared.Opened.{Opened}
 use Rattle.store.specs.declared.Opened.the-variants.{Sound}
-use Rattle.store.proofs.Known.{holds-are, page-lt}
+use Rattle.store.proofs.Known.{holds-are, page-lt, slot-lt}
 use Rattle.store.proofs.Places.{length-empty}
 use Rattle.store.proofs.View.{placeIn, opened-flushed, generation-flushed, bits-flushed, place-flushed, opened-made, generation-made, bits-made, place-made}
-use Rattle.cache.specs.Calls.{mayHold, watched, evicted, noticedIn, insertedIn}
+use Rattle.cache.specs.Calls.{insertJudged, watched, evicted, noticedIn, insertedIn}
+use Rattle.cache.specs.declared.Judged.the-variants.{Accepted}
 use Rattle.cache.specs.declared.Report.{Report}
-use Rattle.cache.proofs.Checks.{opened-fits, may-holds}
-use Rattle.cache.proofs.View.{opened-evicted, generation-evicted, bits-evicted, place-evicted, opened-inserted, generation-inserted, bits-inserted, place-inserted}
+use Rattle.cache.proofs.Checks.{opened-fits, may-holds, insert-taken}
+use Rattle.cache.proofs.View.{opened-evicted, generation-evicted, bits-evicted, place-evicted}
 use Rattle.write.specs.Write.{summed, andThen}
 use Rattle.write.specs.Write as writes
-use Rattle.history.specs.History.{Event, inserted, touched, flushed, Every, none-left, and-then, insertions, marked}
-use Rattle.history.proofs.Places.{Place, empty, full, swept, places, Was, was}
+use Rattle.history.specs.History.{Event, inserted, touched, flushed, Every, none-left, and-then, insertions, shown, marked}
+use Rattle.history.proofs.Sentences.{no-some}
+use Rattle.history.proofs.Places.{Place, empty, full, swept, places, Was, was, full-shown, shown-full, empty-none}
+use Rattle.guarantee.specs.Held.{placeFor, recordIn}
 use Rattle.guarantee.specs.Past.{pageOf, crossed}
+use Rattle.guarantee.specs.Stands.{Possible, Stands}
 use Rattle.guarantee.specs.Answers.{report, reports}
+use Rattle.guarantee.proofs.Held.{place-long, place-named, record-back, opened-inserted, generation-inserted, bits-inserted, place-inserted}
 
--- the bytes of a place of z bytes
-abbrev pub bytesOf : ℕ → Place → List ℕ
-bytesOf z empty = emptyPlace z
-bytesOf z (full a r) = r
-
--- an inserted record's address can hold a block, the record fills a place and names that address
+-- an accepted insertion: its address lies in memory, and what the place holds for the record is as long as a place, names the address and shows the record
 pub record Fits (g : Geometry) (a : ℕ) (r : List ℕ) : Type 0 where
-  pub able : mayHold g a ≡ true
-  pub long : length r ≡ g .size
-  pub named : doublewordAt r 0 ≡ a
+  pub able : holds g a ≡ true
+  pub long : length (placeFor g r) ≡ g .size
+  pub named : doublewordAt (placeFor g r) 0 ≡ a
+  pub back : recordIn g (placeFor g r) ≡ r
 
-lies : (g : Geometry) (a : ℕ) (r : List ℕ) → Fits g a r → holds g a ≡ true
-lies g a r f = may-holds g a (f .able)
+pub fits-accepted : (g : Geometry) (s : List ℕ) → opened s ≡ Sound g → (a : ℕ) (r : List ℕ) → insertJudged (Sound g) a r ≡ Accepted g → Fits g a r
+fits-accepted g s o a r e =
+    let t = insert-taken s a r g (ap (λ (z : Opened). insertJudged z a r) o ∙ e) in
+    record { able = may-holds g a (t .inner); long = place-long g r s o (t .whole); named = place-named g r a (t .formed); back = record-back g r a (t .formed) }
 
-abbrev pub Inner : Geometry → Event → Type 0
-Inner g (inserted a r) = Fits g a r
-Inner g (touched p) = Unit {0}
-Inner g flushed = Unit {0}
+-- the bytes of a place
+abbrev pub bytesOf : Geometry → Place → List ℕ
+bytesOf g empty = emptyPlace (g .size)
+bytesOf g (full a r) = placeFor g r
 
-pub record Simulates (g : Geometry) (h : List Event) (s : List ℕ) : Type 0 where
-  pub sound : opened s ≡ Sound g
-  pub age : generationOf s ≡ (insertions h + 1) % 2 ^ 64
-  pub place : (i : ℕ) → i < 2 ^ g .e → placeIn g s i ≡ bytesOf (g .size) (places (slotOf g) pageOf h i)
-  pub bits : (q : ℕ) → q < g .pages → pageBit s q ≡ marked (slotOf g) pageOf h (pageOf (g .base) + q)
-  pub inner : Every (Inner g) h
+-- the places of a store that stands for a past, by slots
+module _ (g : Geometry) (h : List Event) (s : List ℕ) where
+  pub place-is : Stands g h s → (i : ℕ) → i < 2 ^ g .e → placeIn g s i ≡ bytesOf g (places (slotOf g) pageOf h i)
+  place-is y i c = go (places (slotOf g) pageOf h i) refl
+    where
+      go : (k : Place) → places (slotOf g) pageOf h i ≡ k → placeIn g s i ≡ bytesOf g k
+      go empty e = y .vacant i c (λ a q. empty-none (slotOf g) pageOf h i a e q)
+      go (full a r) e = let w = full-shown (slotOf g) pageOf h i a r e in subst (λ (j : ℕ). placeIn g s j ≡ placeFor g r) (w .0) (y .full a r (w .1))
+
+  pub standing : opened s ≡ Sound g → generationOf s ≡ (insertions h + 1) % 2 ^ 64 → ((i : ℕ) → i < 2 ^ g .e → placeIn g s i ≡ bytesOf g (places (slotOf g) pageOf h i)) → ((q : ℕ) → q < g .pages → pageBit s q ≡ marked (slotOf g) pageOf h (pageOf (g .base) + q)) → Every (Possible g) h → Stands g h s
+  standing o age place bits possible = record {
+    sound = o;
+    age = age;
+    full = λ a r e. place (slotOf g a) (slot-lt g a) ∙ ap (bytesOf g) (shown-full (slotOf g) pageOf h a r e);
+    vacant = λ i c n. place i c ∙ ap (bytesOf g) (none-there i n (places (slotOf g) pageOf h i) refl);
+    bits = bits;
+    possible = possible;
+  }
+    where
+      none-there : (i : ℕ) → ((a : ℕ) → slotOf g a ≡ i → shown (slotOf g) pageOf h a ≡ none) → (k : Place) → places (slotOf g) pageOf h i ≡ k → k ≡ empty
+      none-there i n empty e = refl
+      none-there i n (full a r) e = let w = full-shown (slotOf g) pageOf h i a r e in no-some r (sym (n a (w .0)) ∙ w .1)
 
 -- pages counted from address 0 and from the base
 page-shift : (g : Geometry) (a : ℕ) → Bounded g → holds g a ≡ true → pageOf a ≡ pageOf (g .base) + (a - g .base) / 4096
@@ -67,7 +88,11 @@ same-test g a q b h =
     (λ n. ne-eqb ((a - g .base) / 4096) q n ∙ sym (ne-eqb (pageOf a) (pageOf (g .base) + q) (λ e. n (omega (arith, page-shift g a b h)))))
 
 -- a scan of a place's bytes is a scan of the place
-scanned : (g : Geometry) (p : ℕ) (k : Place) → Bounded g → Was (slotOf g) pageOf (Inner g) k → emptied p (bytesOf (g .size) k) ≡ bytesOf (g .size) (swept (slotOf g) pageOf p k)
+abbrev pub Fitted : Geometry → Place → Type 0
+Fitted g empty = Unit {0}
+Fitted g (full a r) = Fits g a r
+
+scanned : (g : Geometry) (p : ℕ) (k : Place) → Bounded g → Fitted g k → emptied p (bytesOf g k) ≡ bytesOf g (swept (slotOf g) pageOf p k)
 unfolding emptied
 scanned g p empty b w = go (eqb (doublewordAt (emptyPlace (g .size)) 0 / 4096) p)
   where
@@ -76,7 +101,7 @@ scanned g p empty b w = go (eqb (doublewordAt (emptyPlace (g .size)) 0 / 4096) p
     go false = refl
 scanned g p (full a r) b w = rw (w .named, w .long) (go (eqb (a / 4096) p))
   where
-    go : (t : Bool) → cond t (emptyPlace (g .size)) r ≡ bytesOf (g .size) (cond t empty (full a r))
+    go : (t : Bool) → cond t (emptyPlace (g .size)) (placeFor g r) ≡ bytesOf g (cond t empty (full a r))
     go true = refl
     go false = refl
 
@@ -84,34 +109,40 @@ within : (g : Geometry) (a : ℕ) → g .base ≤ a → a < g .base + 4096 * g .
 unfolding holds
 within g a l u = rw (le-leb (g .base) a l) (lt-ltb a (g .base + 4096 * g .pages) u)
 
-module _ (g : Geometry) (h : List Event) (s : List ℕ) (y : Simulates g h s) where
+module _ (g : Geometry) (h : List Event) (s : List ℕ) (y : Stands g h s) where
   fits : Fitting g s
   fits = opened-fits s g (y .sound)
 
-  pub flush-keeps : Simulates g (flushed ∷ h) (take 32 s ++ blank g)
-  unfolding marked places insertions
-  flush-keeps = record {
-    sound = opened-flushed g s fits ∙ y .sound;
-    age = generation-flushed g s fits ∙ y .age;
-    place = λ i c. place-flushed g s fits i c;
-    bits = λ q c. bits-flushed g s fits q c;
-    inner = and-then tt (y .inner);
-  }
+  -- what a place holds was accepted
+  pub fitted : (i : ℕ) → Fitted g (places (slotOf g) pageOf h i)
+  fitted i = go (places (slotOf g) pageOf h i) (was (slotOf g) pageOf (Possible g) h (y .possible) i)
+    where
+      go : (k : Place) → Was (slotOf g) pageOf (Possible g) k → Fitted g k
+      go empty w = tt
+      go (full a r) w = fits-accepted g s (y .sound) a r w
 
-  pub insert-keeps : (a : ℕ) (r : List ℕ) → Fits g a r → Simulates g (inserted a r ∷ h) (insertedIn g s a r)
+  pub flush-keeps : Stands g (flushed ∷ h) (take 32 s ++ blank g)
   unfolding marked places insertions
-  insert-keeps a r f = record {
-    sound = opened-inserted g s fits a (lies g a r f) r (f .long) ∙ y .sound;
-    age = generation-inserted g s fits a (lies g a r f) r (f .long) ∙ ap (λ (n : ℕ). (n + 1) % 2 ^ 64) (y .age) ∙ mod-add-mod (insertions h + 1) (2 ^ 64) 1 ∙ ap (λ (n : ℕ). n % 2 ^ 64) one-more;
-    place = λ i c. place-inserted g s fits a (lies g a r f) r (f .long) i ∙ one (places (slotOf g) pageOf h i) (placeIn g s i) (eqb (slotOf g a) i) (y .place i c);
-    bits = λ q c. bits-inserted g s fits a (lies g a r f) r (f .long) q c ∙ rw (same-test g a q (fits .bounds) (lies g a r f)) (bit (eqb (pageOf a) (pageOf (g .base) + q)) _ _ (y .bits q c));
-    inner = and-then f (y .inner);
-  }
+  flush-keeps =
+      standing g (flushed ∷ h) (take 32 s ++ blank g) (opened-flushed g s fits ∙ y .sound) (generation-flushed g s fits ∙ y .age)
+      (λ i c. place-flushed g s fits i c)
+      (λ q c. bits-flushed g s fits q c)
+      (and-then tt (y .possible))
+
+  pub insert-keeps : (a : ℕ) (r : List ℕ) → insertJudged (Sound g) a r ≡ Accepted g → Stands g (inserted a r ∷ h) (insertedIn g s a r)
+  unfolding marked places insertions
+  insert-keeps a r e =
+      let f = fits-accepted g s (y .sound) a r e in
+      standing g (inserted a r ∷ h) (insertedIn g s a r) (opened-inserted g s fits a (f .able) r (f .long) ∙ y .sound)
+      (generation-inserted g s fits a (f .able) r (f .long) ∙ ap (λ (n : ℕ). (n + 1) % 2 ^ 64) (y .age) ∙ mod-add-mod (insertions h + 1) (2 ^ 64) 1 ∙ ap (λ (n : ℕ). n % 2 ^ 64) one-more)
+      (λ i c. place-inserted g s fits a (f .able) r (f .long) i ∙ one (places (slotOf g) pageOf h i) (placeIn g s i) (eqb (slotOf g a) i) (place-is g h s y i c))
+      (λ q c. bits-inserted g s fits a (f .able) r (f .long) q c ∙ rw (same-test g a q (fits .bounds) (f .able)) (bit (eqb (pageOf a) (pageOf (g .base) + q)) _ _ (y .bits q c)))
+      (and-then e (y .possible))
     where
       one-more : insertions h + 1 + 1 ≡ suc (insertions h) + 1
       one-more = omega arith
 
-      one : (k : Place) (x : List ℕ) (t : Bool) → x ≡ bytesOf (g .size) k → cond t r x ≡ bytesOf (g .size) (cond t (full a r) k)
+      one : (k : Place) (x : List ℕ) (t : Bool) → x ≡ bytesOf g k → cond t (placeFor g r) x ≡ bytesOf g (cond t (full a r) k)
       one k x true e = refl
       one k x false e = e
 
@@ -120,52 +151,51 @@ module _ (g : Geometry) (h : List Event) (s : List ℕ) (y : Simulates g h s) wh
       bit false u v e = e
 
   -- a page is watched exactly when the past has it marked
-  outside : (a : ℕ) → holds g a ≡ false → (k : List Event) → Every (Inner g) k → marked (slotOf g) pageOf k (pageOf a) ≡ false
+  outside : (a : ℕ) → holds g a ≡ false → (k : List Event) → Every (Possible g) k → marked (slotOf g) pageOf k (pageOf a) ≡ false
   unfolding marked
   outside a o [] none-left = refl
-  outside a o (inserted b r ∷ k) (and-then f l) = rw (ne-eqb (pageOf b) (pageOf a) apart) (outside a o k l)
+  outside a o (inserted b r ∷ k) (and-then e l) = rw (ne-eqb (pageOf b) (pageOf a) apart) (outside a o k l)
     where
+      inside : (g .base ≤ b) × (b < g .base + 4096 * g .pages)
+      inside = holds-are g b (fits-accepted g s (y .sound) b r e .able)
+
       apart : pageOf b ≡ pageOf a → ⊥
-      apart e = true-false (within g a (omega (arith, holds-are g b (lies g b r f), fits .bounds .aligned)) (omega (arith, holds-are g b (lies g b r f), fits .bounds .aligned))) o
-  outside a o (touched p ∷ k) (and-then f l) = rw (outside a o k l) (nothing (not (eqb p (pageOf a))))
+      apart q = true-false (within g a (omega (arith, inside, fits .bounds .aligned)) (omega (arith, inside, fits .bounds .aligned))) o
+  outside a o (touched p ∷ k) (and-then e l) = rw (outside a o k l) (nothing (not (eqb p (pageOf a))))
     where
       nothing : (t : Bool) → (t && false) ≡ false
       nothing true = refl
       nothing false = refl
-  outside a o (flushed ∷ k) (and-then f l) = refl
+  outside a o (flushed ∷ k) (and-then e l) = refl
 
   watched-marked : (a : ℕ) → watched g s a ≡ marked (slotOf g) pageOf h (pageOf a)
   watched-marked a = go (holds g a) refl
     where
       go : (t : Bool) → holds g a ≡ t → (t && pageBit s ((a - g .base) / 4096)) ≡ marked (slotOf g) pageOf h (pageOf a)
       go true e = y .bits ((a - g .base) / 4096) (page-lt g a e) ∙ ap (marked (slotOf g) pageOf h) (sym (page-shift g a (fits .bounds) e))
-      go false e = sym (outside a e h (y .inner))
+      go false e = sym (outside a e h (y .possible))
 
   -- a notice
   module _ (a : ℕ) where
-    swept-places : marked (slotOf g) pageOf h (pageOf a) ≡ true → holds g a ≡ true → Simulates g (touched (pageOf a) ∷ h) (evicted g s a)
+    swept-places : marked (slotOf g) pageOf h (pageOf a) ≡ true → holds g a ≡ true → Stands g (touched (pageOf a) ∷ h) (evicted g s a)
     unfolding marked places insertions
-    swept-places m o = record {
-      sound = opened-evicted g s fits a o ∙ y .sound;
-      age = generation-evicted g s fits a o ∙ y .age;
-      place = λ i c. place-evicted g s fits a o i c ∙ ap (emptied (a / 4096)) (y .place i c) ∙ rw m (scanned g (pageOf a) (places (slotOf g) pageOf h i) (fits .bounds) (was (slotOf g) pageOf (Inner g) h (y .inner) i));
-      bits = λ q c. bits-evicted g s fits a o q c ∙ rw (same-test g a q (fits .bounds) o) (bit (eqb (pageOf a) (pageOf (g .base) + q)) _ _ (y .bits q c));
-      inner = and-then tt (y .inner);
-    }
+    swept-places m o =
+        standing g (touched (pageOf a) ∷ h) (evicted g s a) (opened-evicted g s fits a o ∙ y .sound) (generation-evicted g s fits a o ∙ y .age)
+        (λ i c. place-evicted g s fits a o i c ∙ ap (emptied (a / 4096)) (place-is g h s y i c) ∙ rw m (scanned g (pageOf a) (places (slotOf g) pageOf h i) (fits .bounds) (fitted i)))
+        (λ q c. bits-evicted g s fits a o q c ∙ rw (same-test g a q (fits .bounds) o) (bit (eqb (pageOf a) (pageOf (g .base) + q)) _ _ (y .bits q c)))
+        (and-then tt (y .possible))
       where
         bit : (t u v : Bool) → u ≡ v → cond t false u ≡ (not t && v)
         bit true u v e = refl
         bit false u v e = e
 
-    unwatched : marked (slotOf g) pageOf h (pageOf a) ≡ false → Simulates g (touched (pageOf a) ∷ h) s
+    unwatched : marked (slotOf g) pageOf h (pageOf a) ≡ false → Stands g (touched (pageOf a) ∷ h) s
     unfolding marked places insertions
-    unwatched m = record {
-      sound = y .sound;
-      age = y .age;
-      place = λ i c. rw m (y .place i c);
-      bits = λ q c. y .bits q c ∙ bit (pageOf (g .base) + q);
-      inner = and-then tt (y .inner);
-    }
+    unwatched m =
+        standing g (touched (pageOf a) ∷ h) s (y .sound) (y .age)
+        (λ i c. rw m (place-is g h s y i c))
+        (λ q c. y .bits q c ∙ bit (pageOf (g .base) + q))
+        (and-then tt (y .possible))
       where
         bit : (q : ℕ) → marked (slotOf g) pageOf h q ≡ (not (eqb (pageOf a) q) && marked (slotOf g) pageOf h q)
         bit q = decide (pageOf a) q (λ e. rw (eq-eqb (pageOf a) q e) (ap (marked (slotOf g) pageOf h) (sym e) ∙ m)) (λ n. rw (ne-eqb (pageOf a) q n))
@@ -179,42 +209,51 @@ module _ (g : Geometry) (h : List Event) (s : List ℕ) (y : Simulates g h s) wh
         go true false e = absurd (true-false refl e)
         go false true e = absurd (true-false refl (sym e))
 
-    pub notice-keeps : Simulates g (touched (pageOf a) ∷ h) (noticedIn g s a .1)
+    pub notice-keeps : Stands g (touched (pageOf a) ∷ h) (noticedIn g s a .1)
     notice-keeps = go (watched g s a) refl
       where
         in-memory : watched g s a ≡ true → holds g a ≡ true
         in-memory e = and-both (holds g a) _ e .0
 
-        go : (t : Bool) → watched g s a ≡ t → Simulates g (touched (pageOf a) ∷ h) (cond {A = Report × List ℕ} t (record { examined = 2 ^ g .e }, evicted g s a) (record { examined = 0 }, s) .1)
+        go : (t : Bool) → watched g s a ≡ t → Stands g (touched (pageOf a) ∷ h) (cond {A = Report × List ℕ} t (record { examined = 2 ^ g .e }, evicted g s a) (record { examined = 0 }, s) .1)
         go true e = swept-places (sym (watched-marked a) ∙ e) (in-memory e)
         go false e = unwatched (sym (watched-marked a) ∙ e)
 
+-- the first report of a sum
+pub alone : (r : Report) → summed (record { examined = 0 }) r ≡ r
+alone r = ap (λ (n : ℕ). record { examined = n }) (sum (r .examined))
+  where
+    sum : (n : ℕ) → 0 + n ≡ n
+    sum n = omega arith
+
 -- the notices of a write from a to b
-module _ (g : Geometry) (h : List Event) (s : List ℕ) (y : Simulates g h s) (a b : ℕ) where
-  pub write-reports : writes.touched g s a b .0 ≡ reports g h a b
+module _ (g : Geometry) (h : List Event) (s : List ℕ) (y : Stands g h s) (a b : ℕ) where
+  pub write-reports : writes.touched g s a b .0 ≡ reports g h (crossed a b)
+  unfolding reports
   write-reports = go (eqb (pageOf a) (pageOf b))
     where
+      first : noticedIn g s a .0 ≡ summed (record { examined = 0 }) (report g h (pageOf a))
+      first = notice-reports g h s y a ∙ sym (alone (report g h (pageOf a)))
+
       second : noticedIn g (noticedIn g s a .1) b .0 ≡ report g (touched (pageOf a) ∷ h) (pageOf b)
       second = notice-reports g (touched (pageOf a) ∷ h) (noticedIn g s a .1) (notice-keeps g h s y a) b
 
-      go : (t : Bool) → cond {A = Report × List ℕ} t (noticedIn g s a) (andThen g (noticedIn g s a) b) .0 ≡ cond t (report g h (pageOf a)) (summed (report g h (pageOf a)) (report g (touched (pageOf a) ∷ h) (pageOf b)))
-      go true = notice-reports g h s y a
-      go false = ap₂ summed (notice-reports g h s y a) second
+      go : (t : Bool) → cond {A = Report × List ℕ} t (noticedIn g s a) (andThen g (noticedIn g s a) b) .0 ≡ reports g h (cond t (touched (pageOf a) ∷ []) (touched (pageOf b) ∷ touched (pageOf a) ∷ []))
+      go true = first
+      go false = ap₂ summed first second
 
-  pub write-keeps : Simulates g (crossed a b h) (writes.touched g s a b .1)
+  pub write-keeps : Stands g (crossed a b ++ h) (writes.touched g s a b .1)
   write-keeps = go (eqb (pageOf a) (pageOf b))
     where
-      go : (t : Bool) → Simulates g (cond t (touched (pageOf a) ∷ h) (touched (pageOf b) ∷ touched (pageOf a) ∷ h)) (cond {A = Report × List ℕ} t (noticedIn g s a) (andThen g (noticedIn g s a) b) .1)
+      go : (t : Bool) → Stands g (cond t (touched (pageOf a) ∷ []) (touched (pageOf b) ∷ touched (pageOf a) ∷ []) ++ h) (cond {A = Report × List ℕ} t (noticedIn g s a) (andThen g (noticedIn g s a) b) .1)
       go true = notice-keeps g h s y a
       go false = notice-keeps g (touched (pageOf a) ∷ h) (noticedIn g s a .1) (notice-keeps g h s y a) b
 
 -- a new store
-pub make-keeps : (e base pages : ℕ) → inBounds e base pages ≡ true → Simulates (geometry e base pages) [] (header (geometry e base pages) 1 ++ blank (geometry e base pages))
+pub make-keeps : (e base pages : ℕ) → inBounds e base pages ≡ true → Stands (geometry e base pages) [] (header (geometry e base pages) 1 ++ blank (geometry e base pages))
 unfolding marked places insertions
-make-keeps e base pages w = record {
-  sound = opened-made e base pages w;
-  age = generation-made e base pages w;
-  place = λ i c. place-made e base pages w i c;
-  bits = λ q c. bits-made e base pages w q c;
-  inner = none-left;
-}
+make-keeps e base pages w =
+    standing (geometry e base pages) [] (header (geometry e base pages) 1 ++ blank (geometry e base pages)) (opened-made e base pages w) (generation-made e base pages w)
+    (λ i c. place-made e base pages w i c)
+    (λ q c. bits-made e base pages w q c)
+    none-left

@@ -1,11 +1,9 @@
--- The slots that the calls since the last accepted Make reported are the sum that their past gives, so at most 2 ^ e for each accepted insertion.
+-- The slots that the calls since the last accepted Make reported are the sum that their past gives, so at most 2 ^ e for each accepted insertion of it.
 -- Assumes nothing.
-use mathlib.Core.Path.{_≡_, refl, ap, ap₂, subst, _∙_}
-use mathlib.Core.Bool.{Bool, true, false, cond}
-use mathlib.Core.List.{List, [], _∷_}
+use mathlib.Core.Path.{_≡_, refl, sym, ap, ap₂, subst, _∙_}
+use mathlib.Core.List.{List, [], _∷_, _++_}
 use Prim.Native.Nat.{ℕ, _+_, _-_, _*_, _^_, _≤_}
 use native.Mathlib.Omega.{arith}
-use lib.Dec.{eqb}
 use lib.ListN.{length}
 use Rattle.store.specs.Layout.{slotOf}
 use Rattle.store.specs.declared.Geometry.{Geometry}
@@ -14,83 +12,77 @@ use Rattle.cache.specs.Answers.{noticeValue}
 use Rattle.cache.specs.Calls.{makeJudged, insertJudged, noticeCall}
 use Rattle.cache.specs.declared.Judged.{Judged}
 use Rattle.cache.specs.declared.Judged.the-variants.{Accepted, Rejected}
-use Rattle.write.specs.Write.{writeValue, writeJudged, writeCall, summed}
-use Rattle.history.specs.History.{Event, touched, flushed, insertions, examined, total}
+use Rattle.cache.specs.declared.NoticeAnswer.the-variants.{Noticed}
+use Rattle.cache.specs.declared.Report.{Report}
+use Rattle.write.specs.Write.{writeValue, writeJudged}
+use Rattle.history.specs.History.{Event, inserted, touched, flushed, insertions, examined, total}
 use Rattle.history.proofs.Bound.{bound}
-use Rattle.guarantee.specs.Calls.{Call, make, lookup, insert, notice, flush, generation, write, Lent, run}
-use Rattle.guarantee.specs.Past.{Past, unmade, since, pageOf, begun, entered, crossed, wrote, more, told, past, pastOf}
-use Rattle.guarantee.specs.Answers.{report, reports, writeAnswered, anew, spent}
-use Rattle.guarantee.proofs.Guarantee.{notice-answers, write-answers}
+use Rattle.guarantee.specs.Calls.{Use, lookup, insert, notice, flush, generation, write, Call, make, uses, Lent, done, run}
+use Rattle.guarantee.specs.Past.{Past, unmade, since, pageOf, ifAccepted, crossed, events, told, past, pastOf}
+use Rattle.guarantee.specs.Stands.{Stands, Follows}
+use Rattle.guarantee.specs.Answers.{report, reports, writeAnswered, slots, spent}
+use Rattle.guarantee.proofs.Simulation.{notice-reports, alone}
+use Rattle.guarantee.proofs.Run.{kept}
+use Rattle.guarantee.proofs.Guarantee.{write-is}
 
-abbrev sum : Geometry → List Event → ℕ
-sum g h = total (slotOf g) pageOf (2 ^ g .e) h
+-- what a call's events report comes on top of what the past has
+added : (g : Geometry) (h new : List Event) → reports g h new .examined + slots (since g h) ≡ slots (since g (new ++ h))
+unfolding reports total
+added g h [] = let sum : 0 + total (slotOf g) pageOf (2 ^ g .e) h ≡ total (slotOf g) pageOf (2 ^ g .e) h = omega arith in sum
+added g h (inserted a rec ∷ new) = added g h new
+added g h (touched p ∷ new) = turned (reports g h new .examined) (examined (slotOf g) pageOf (2 ^ g .e) (new ++ h) p) (slots (since g h)) (slots (since g (new ++ h))) (added g h new)
+  where
+    turned : (x y z w : ℕ) → x + z ≡ w → x + y + z ≡ y + w
+    turned x y z w e = omega arith
+added g h (flushed ∷ new) = added g h new
+
+-- a call reports what its events do
+reported : (g : Geometry) (h : List Event) (l : Lent) → Stands g h (l .store) → (c : Use) → done c l .0 ≡ reports g h (events (length (l .memory)) g c) .examined
+unfolding done events reports
+reported g h l y (lookup a) = refl
+reported g h l y (insert a rec) = go (insertJudged (Sound g) a rec)
+  where
+    go : (j : Judged) → 0 ≡ reports g h (ifAccepted j (λ k. inserted a rec ∷ []) []) .examined
+    go (Accepted k) = refl
+    go (Rejected why) = refl
+reported g h l y (notice a) = rw (y .sound) (ap (λ (r : Report). r .examined) (notice-reports g h (l .store) y a ∙ sym (alone (report g h (pageOf a)))))
+reported g h l y flush = refl
+reported g h l y generation = refl
+reported g h l y (write a n v) = ap writeValue (write-is g h (l .store) y (l .memory) a n v) ∙ go (writeJudged (Sound g) (length (l .memory)) a n)
+  where
+    go : (j : Judged) → writeValue (writeAnswered j (reports g h (ifAccepted j (λ k. crossed a (a + n - 1)) []))) ≡ reports g h (ifAccepted j (λ k. crossed a (a + n - 1)) []) .examined
+    go (Accepted k) = refl
+    go (Rejected why) = refl
 
 abbrev Paid : Past → ℕ → Type 0
 Paid unmade n = Unit {0}
-Paid (since g h) n = n ≡ sum g h
+Paid (since g h) n = n ≡ slots (since g h)
 
--- a write's pages are paid for one after the other
-crossing : (g : Geometry) (h : List Event) (a b : ℕ) → reports g h a b .examined + sum g h ≡ sum g (crossed a b h)
-unfolding total
-crossing g h a b = go (eqb (pageOf a) (pageOf b))
-  where
-    p : ℕ
-    p = report g h (pageOf a) .examined
+module _ (p : Past) (l : Lent) (start : Follows p (l .store)) where
+  paid : (calls : List Call) → Paid (pastOf p calls l) (spent p calls l)
+  unfolding past spent total
+  paid [] = go p
+    where
+      go : (p : Past) → Paid p (slots p)
+      go unmade = tt
+      go (since g h) = refl
+  paid (make e base pages ∷ calls) = go (makeJudged e base pages (length (l .store))) (pastOf p calls l) (paid calls)
+    where
+      go : (j : Judged) (z : Past) → Paid z (spent p calls l) → Paid (ifAccepted j (λ g. since g []) z) (ifAccepted j (λ g. 0) (spent p calls l))
+      go (Accepted g) z i = refl
+      go (Rejected why) z i = i
+  paid (uses c ∷ calls) = go (pastOf p calls l) (kept p l start calls .follows) (paid calls)
+    where
+      go : (z : Past) → Follows z (run calls l .store) → Paid z (spent p calls l) → Paid (told (length (l .memory)) c z) (done c (run calls l) .0 + spent p calls l)
+      go unmade y i = tt
+      go (since g h) y i =
+          ap₂ _+_ (reported g h (run calls l) y c ∙ ap (λ (n : ℕ). reports g h (events n g c) .examined) (kept p l start calls .roomy)) i
+          ∙ added g h (events (length (l .memory)) g c)
 
-    q : ℕ
-    q = report g (touched (pageOf a) ∷ h) (pageOf b) .examined
+  module _ (calls : List Call) (g : Geometry) (h : List Event) (is : pastOf p calls l ≡ since g h) where
+    pub spent-is : spent p calls l ≡ slots (since g h)
+    spent-is = subst (λ (z : Past). Paid z (spent p calls l)) is (paid calls)
 
-    go : (t : Bool) → cond t (report g h (pageOf a)) (summed (report g h (pageOf a)) (report g (touched (pageOf a) ∷ h) (pageOf b))) .examined + sum g h ≡ sum g (cond t (touched (pageOf a) ∷ h) (touched (pageOf b) ∷ touched (pageOf a) ∷ h))
-    go true = refl
-    go false = turned p q (sum g h)
-      where
-        turned : (x y z : ℕ) → x + y + z ≡ y + (x + z)
-        turned x y z = omega arith
-
-answered : (g : Geometry) (h : List Event) (j : Judged) (a n : ℕ) → writeValue (writeAnswered j g h a n) + sum g h ≡ sum g (wrote j a n h)
-answered g h (Accepted k) a n = crossing g h a (a + n - 1)
-answered g h (Rejected why) a n = omega arith
-
-paid : (calls : List Call) (l : Lent) → Paid (pastOf calls l) (spent calls l)
-unfolding past told spent total
-paid [] l = tt
-paid (make e base pages ∷ calls) l = go (makeJudged e base pages (length (l .store))) (pastOf calls l) (paid calls l)
-  where
-    go : (j : Judged) (p : Past) → Paid p (spent calls l) → Paid (begun j p) (anew j (spent calls l))
-    go (Accepted g) p i = refl
-    go (Rejected why) p i = i
-paid (lookup a ∷ calls) l = paid calls l
-paid (insert a rec ∷ calls) l = go (pastOf calls l) (paid calls l)
-  where
-    taken : (g : Geometry) (h : List Event) (j : Judged) → spent calls l ≡ sum g h → spent calls l ≡ sum g (entered j a rec h)
-    taken g h (Accepted k) i = i
-    taken g h (Rejected why) i = i
-
-    go : (p : Past) → Paid p (spent calls l) → Paid (more (λ g h. entered (insertJudged (Sound g) a rec) a rec h) p) (spent calls l)
-    go unmade i = tt
-    go (since g h) i = taken g h (insertJudged (Sound g) a rec) i
-paid (notice a ∷ calls) l = go (pastOf calls l) refl (paid calls l)
-  where
-    go : (p : Past) → pastOf calls l ≡ p → Paid p (spent calls l) → Paid (more (λ g h. touched (pageOf a) ∷ h) p) (noticeValue (noticeCall (run calls l .store) a .0) + spent calls l)
-    go unmade e i = tt
-    go (since g h) e i = ap₂ _+_ (ap noticeValue (notice-answers calls l g h e a)) i
-paid (flush ∷ calls) l = go (pastOf calls l) (paid calls l)
-  where
-    go : (p : Past) → Paid p (spent calls l) → Paid (more (λ g h. flushed ∷ h) p) (spent calls l)
-    go unmade i = tt
-    go (since g h) i = i
-paid (generation ∷ calls) l = paid calls l
-paid (write a n v ∷ calls) l = go (pastOf calls l) refl (paid calls l)
-  where
-    go : (p : Past) → pastOf calls l ≡ p → Paid p (spent calls l) → Paid (more (λ g h. wrote (writeJudged (Sound g) (length (l .memory)) a n) a n h) p) (writeValue (writeCall (run calls l .store) (run calls l .memory) a n v .0) + spent calls l)
-    go unmade e i = tt
-    go (since g h) e i =
-        ap₂ _+_ (ap writeValue (write-answers calls l g h e a n v)) i
-        ∙ answered g h (writeJudged (Sound g) (length (l .memory)) a n) a n
-
-module _ (calls : List Call) (l : Lent) (g : Geometry) (h : List Event) (is : pastOf calls l ≡ since g h) where
-  pub spent-is : spent calls l ≡ sum g h
-  spent-is = subst (λ (p : Past). Paid p (spent calls l)) is (paid calls l)
-
-  pub never-more : spent calls l ≤ 2 ^ g .e * insertions h
-  never-more = rw spent-is (bound (slotOf g) pageOf (2 ^ g .e) h)
+    -- all insertions since the last accepted Make, those before the start among them: what is reported now may have been marked then
+    pub never-more : spent p calls l ≤ 2 ^ g .e * insertions h
+    never-more = rw spent-is (bound (slotOf g) pageOf (2 ^ g .e) h)

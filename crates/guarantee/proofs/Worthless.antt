@@ -16,8 +16,8 @@ use Rattle.block.specs.WellFormed.{allZero, placed, opsWellFormed, wellFormed}
 use Rattle.store.specs.Layout.{geometry}
 use Rattle.history.specs.History.{inserted, touched, insertions, shown, marked}
 use Rattle.history.proofs.Sentences.{no-some}
-use Rattle.guarantee.specs.Calls.{make, insert, notice}
-use Rattle.guarantee.specs.Past.{since, told, past}
+use Rattle.guarantee.specs.Calls.{insert, notice, make, uses}
+use Rattle.guarantee.specs.Past.{unmade, since, events, past}
 use Rattle.guarantee.specs.Worthless.{ShowsRight, CountsRight, keepsNothing, firstKept, keepsFirst, untouched, emptiesAll, alwaysAll, alwaysNone}
 
 -- a block of one op, ADDI x1, x1, n, at address 0
@@ -30,20 +30,20 @@ immOf none = 0
 immOf (some r) = getD r 24 0
 
 -- a store of four slots for two pages; then a block in it, another in its place, a notice in the other page
-new : past 4200 8192 (make 2 0 2 ∷ []) ≡ since (geometry 2 0 2) []
-unfolding past told
+new : past 4200 8192 unmade (make 2 0 2 ∷ []) ≡ since (geometry 2 0 2) []
+unfolding past
 new = refl
 
-one : past 4200 8192 (insert 0 (block 1) ∷ make 2 0 2 ∷ []) ≡ since (geometry 2 0 2) (inserted 0 (block 1) ∷ [])
-unfolding past told block blockRecord opRecords byteLen wellFormed opsWellFormed placed opWellFormed limits allZero le
+one : past 4200 8192 unmade (uses (insert 0 (block 1)) ∷ make 2 0 2 ∷ []) ≡ since (geometry 2 0 2) (inserted 0 (block 1) ∷ [])
+unfolding past events block blockRecord opRecords byteLen wellFormed opsWellFormed placed opWellFormed limits allZero le
 one = refl
 
-two : past 4200 8192 (insert 0 (block 2) ∷ insert 0 (block 1) ∷ make 2 0 2 ∷ []) ≡ since (geometry 2 0 2) (inserted 0 (block 2) ∷ inserted 0 (block 1) ∷ [])
-unfolding past told block blockRecord opRecords byteLen wellFormed opsWellFormed placed opWellFormed limits allZero le
+two : past 4200 8192 unmade (uses (insert 0 (block 2)) ∷ uses (insert 0 (block 1)) ∷ make 2 0 2 ∷ []) ≡ since (geometry 2 0 2) (inserted 0 (block 2) ∷ inserted 0 (block 1) ∷ [])
+unfolding past events block blockRecord opRecords byteLen wellFormed opsWellFormed placed opWellFormed limits allZero le
 two = refl
 
-noticed : past 4200 8192 (notice 4096 ∷ insert 0 (block 1) ∷ make 2 0 2 ∷ []) ≡ since (geometry 2 0 2) (touched 1 ∷ inserted 0 (block 1) ∷ [])
-unfolding past told block blockRecord opRecords byteLen wellFormed opsWellFormed placed opWellFormed limits allZero le
+noticed : past 4200 8192 unmade (uses (notice 4096) ∷ uses (insert 0 (block 1)) ∷ make 2 0 2 ∷ []) ≡ since (geometry 2 0 2) (touched 1 ∷ inserted 0 (block 1) ∷ [])
+unfolding past events block blockRecord opRecords byteLen wellFormed opsWellFormed placed opWellFormed limits allZero le
 noticed = refl
 
 pub keeps-nothing : ShowsRight keepsNothing → ⊥

@@ -1,36 +1,50 @@
 -- What the calls answer, by a store's past alone.
 -- Assumes nothing.
-use Prim.Native.Nat.{ℕ, _+_, _-_, _^_}
-use mathlib.Core.Bool.{cond}
-use mathlib.Core.List.{List, [], _∷_}
-use lib.Dec.{eqb}
+use Prim.Native.Nat.{ℕ, _+_, _^_}
+use mathlib.Core.List.{List, [], _∷_, _++_}
+use mathlib.Core.Option.{Option, none, some}
 use lib.ListN.{length}
 use Rattle.store.specs.Layout.{slotOf}
 use Rattle.store.specs.declared.Geometry.{Geometry}
-use Rattle.cache.specs.Answers.{noticeValue}
-use Rattle.cache.specs.Calls.{makeJudged, noticeCall}
+use Rattle.cache.specs.Calls.{makeJudged, placeOf}
+use Rattle.cache.specs.declared.Refusal.the-variants.{NothingFound}
 use Rattle.cache.specs.declared.MakeAnswer.{MakeAnswer}
 use Rattle.cache.specs.declared.MakeAnswer.the-variants.{Made, MakeRefused}
+use Rattle.cache.specs.declared.LookupAnswer.{LookupAnswer}
+use Rattle.cache.specs.declared.LookupAnswer.the-variants.{Hit, LookupRefused}
 use Rattle.cache.specs.declared.InsertAnswer.{InsertAnswer}
 use Rattle.cache.specs.declared.InsertAnswer.the-variants.{Inserted, InsertRefused}
 use Rattle.cache.specs.declared.Judged.{Judged}
 use Rattle.cache.specs.declared.Judged.the-variants.{Accepted, Rejected}
 use Rattle.cache.specs.declared.Report.{Report}
-use Rattle.write.specs.Write.{summed, writeValue, writeCall}
+use Rattle.write.specs.Write.{summed}
 use Rattle.write.specs.declared.WriteAnswer.{WriteAnswer}
 use Rattle.write.specs.declared.WriteAnswer.the-variants.{Written, WriteRefused}
-use Rattle.history.specs.History.{Event, touched, examined}
-use Rattle.guarantee.specs.Calls.{Call, make, lookup, insert, notice, flush, generation, write, Lent, run}
-use Rattle.guarantee.specs.Past.{pageOf}
+use Rattle.history.specs.History.{Event, inserted, touched, flushed, examined, total}
+use Rattle.guarantee.specs.Held.{placeFor}
+use Rattle.guarantee.specs.Calls.{Call, make, uses, Lent, done, run}
+use Rattle.guarantee.specs.Past.{Past, unmade, since, pageOf, ifAccepted}
 
--- a notice in page p
+-- a lookup, by the record that the past shows: its slot's place, or nothing found
+abbrev pub lookupAnswered : Geometry → ℕ → Option (List ℕ) → LookupAnswer
+lookupAnswered g a (some r) = Hit (placeOf g a) (g .size)
+lookupAnswered g a none = LookupRefused NothingFound
+
+-- and the part of the store that it returns
+abbrev pub partFor : Geometry → Option (List ℕ) → List ℕ
+partFor g (some r) = placeFor g r
+partFor g none = []
+
+-- a notice in page p, after the events h
 abbrev pub report : Geometry → List Event → ℕ → Report
 report g h p = record { examined = examined (slotOf g) pageOf (2 ^ g .e) h p }
 
--- and a write from a to b: the sum over its pages
-abbrev pub reports : Geometry → List Event → ℕ → ℕ → Report
-reports g h a b =
-    cond (eqb (pageOf a) (pageOf b)) (report g h (pageOf a)) (summed (report g h (pageOf a)) (report g (touched (pageOf a) ∷ h) (pageOf b)))
+-- a call, by its events after the events h: the sum over the pages that it touches
+unfoldable pub reports : Geometry → List Event → List Event → Report
+reports g h [] = record { examined = 0 }
+reports g h (inserted a rec ∷ new) = reports g h new
+reports g h (touched p ∷ new) = summed (reports g h new) (report g (new ++ h) p)
+reports g h (flushed ∷ new) = reports g h new
 
 abbrev pub makeAnswered : Judged → MakeAnswer
 makeAnswered (Accepted g) = Made
@@ -40,21 +54,17 @@ abbrev pub insertAnswered : Judged → InsertAnswer
 insertAnswered (Accepted g) = Inserted
 insertAnswered (Rejected why) = InsertRefused why
 
-abbrev pub writeAnswered : Judged → Geometry → List Event → ℕ → ℕ → WriteAnswer
-writeAnswered (Accepted k) g h a n = Written (reports g h a (a + n - 1))
-writeAnswered (Rejected why) g h a n = WriteRefused why
+abbrev pub writeAnswered : Judged → Report → WriteAnswer
+writeAnswered (Accepted g) r = Written r
+writeAnswered (Rejected why) r = WriteRefused why
 
--- the slots that all calls since the last accepted Make reported
-abbrev pub anew : Judged → ℕ → ℕ
-anew (Accepted g) n = 0
-anew (Rejected why) n = n
+-- the slots that a past's calls have reported
+abbrev pub slots : Past → ℕ
+slots unmade = 0
+slots (since g h) = total (slotOf g) pageOf (2 ^ g .e) h
 
-unfoldable pub spent : List Call → Lent → ℕ
-spent [] l = 0
-spent (make e base pages ∷ calls) l = anew (makeJudged e base pages (length (l .store))) (spent calls l)
-spent (lookup a ∷ calls) l = spent calls l
-spent (insert a rec ∷ calls) l = spent calls l
-spent (notice a ∷ calls) l = noticeValue (noticeCall (run calls l .store) a .0) + spent calls l
-spent (flush ∷ calls) l = spent calls l
-spent (generation ∷ calls) l = spent calls l
-spent (write a n v ∷ calls) l = writeValue (writeCall (run calls l .store) (run calls l .memory) a n v .0) + spent calls l
+-- the slots that all calls since the last accepted Make reported, those before the start by the past p that the store had then
+unfoldable pub spent : Past → List Call → Lent → ℕ
+spent p [] l = slots p
+spent p (make e base pages ∷ calls) l = ifAccepted (makeJudged e base pages (length (l .store))) (λ g. 0) (spent p calls l)
+spent p (uses c ∷ calls) l = done c (run calls l) .0 + spent p calls l

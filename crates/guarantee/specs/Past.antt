@@ -2,7 +2,7 @@
 -- Assumes nothing.
 use Prim.Native.Nat.{ℕ, _+_, _-_, _/_}
 use mathlib.Core.Bool.{cond}
-use mathlib.Core.List.{List, [], _∷_}
+use mathlib.Core.List.{List, [], _∷_, _++_}
 use lib.Dec.{eqb}
 use lib.ListN.{length}
 use Rattle.store.specs.declared.Geometry.{Geometry}
@@ -12,7 +12,7 @@ use Rattle.cache.specs.declared.Judged.{Judged}
 use Rattle.cache.specs.declared.Judged.the-variants.{Accepted, Rejected}
 use Rattle.write.specs.Write.{writeJudged}
 use Rattle.history.specs.History.{Event, inserted, touched, flushed}
-use Rattle.guarantee.specs.Calls.{Call, make, lookup, insert, notice, flush, generation, write, Lent}
+use Rattle.guarantee.specs.Calls.{Use, lookup, insert, notice, flush, generation, write, Call, make, uses, Lent}
 
 -- nothing before an accepted Make; from then on the geometry it made, and the events since, the newest first
 pub data Past : Type 0 where
@@ -23,40 +23,35 @@ pub data Past : Type 0 where
 abbrev pub pageOf : ℕ → ℕ
 pageOf a = a / 4096
 
-abbrev pub begun : Judged → Past → Past
-begun (Accepted g) p = since g []
-begun (Rejected why) p = p
-
-abbrev pub entered : Judged → ℕ → List ℕ → List Event → List Event
-entered (Accepted g) a rec h = inserted a rec ∷ h
-entered (Rejected why) a rec h = h
+-- x of what is accepted, else y
+abbrev pub ifAccepted : {A : Type 0} → Judged → (Geometry → A) → A → A
+ifAccepted (Accepted g) x y = x g
+ifAccepted (Rejected why) x y = y
 
 -- a write from a to b touches one page or two
-abbrev pub crossed : ℕ → ℕ → List Event → List Event
-crossed a b h = cond (eqb (pageOf a) (pageOf b)) (touched (pageOf a) ∷ h) (touched (pageOf b) ∷ touched (pageOf a) ∷ h)
+abbrev pub crossed : ℕ → ℕ → List Event
+crossed a b = cond (eqb (pageOf a) (pageOf b)) (touched (pageOf a) ∷ []) (touched (pageOf b) ∷ touched (pageOf a) ∷ [])
 
-abbrev pub wrote : Judged → ℕ → ℕ → List Event → List Event
-wrote (Accepted g) a n h = crossed a (a + n - 1) h
-wrote (Rejected why) a n h = h
+-- the events of a call, the newest first, on a store of this geometry and a memory of `room` bytes; a refusal is none
+unfoldable pub events : ℕ → Geometry → Use → List Event
+events room g (lookup a) = []
+events room g (insert a rec) = ifAccepted (insertJudged (Sound g) a rec) (λ k. inserted a rec ∷ []) []
+events room g (notice a) = touched (pageOf a) ∷ []
+events room g flush = flushed ∷ []
+events room g generation = []
+events room g (write a n v) = ifAccepted (writeJudged (Sound g) room a n) (λ k. crossed a (a + n - 1)) []
 
-abbrev pub more : (Geometry → List Event → List Event) → Past → Past
-more f unmade = unmade
-more f (since g h) = since g (f g h)
+-- what a call adds to a past
+abbrev pub told : ℕ → Use → Past → Past
+told room c unmade = unmade
+told room c (since g h) = since g (events room g c ++ h)
 
--- what a call adds, on a store of `size` bytes and a memory of `room`; a refusal adds nothing
-unfoldable pub told : ℕ → ℕ → Call → Past → Past
-told size room (make e base pages) p = begun (makeJudged e base pages size) p
-told size room (lookup a) p = p
-told size room (insert a rec) p = more (λ g h. entered (insertJudged (Sound g) a rec) a rec h) p
-told size room (notice a) p = more (λ g h. touched (pageOf a) ∷ h) p
-told size room flush p = more (λ g h. flushed ∷ h) p
-told size room generation p = p
-told size room (write a n v) p = more (λ g h. wrote (writeJudged (Sound g) room a n) a n h) p
-
-unfoldable pub past : ℕ → ℕ → List Call → Past
-past size room [] = unmade
-past size room (c ∷ calls) = told size room c (past size room calls)
+-- the past of a store of `size` bytes after calls, from the past that it had before them; an accepted Make begins anew
+unfoldable pub past : ℕ → ℕ → Past → List Call → Past
+past size room p [] = p
+past size room p (make e base pages ∷ calls) = ifAccepted (makeJudged e base pages size) (λ g. since g []) (past size room p calls)
+past size room p (uses c ∷ calls) = told room c (past size room p calls)
 
 -- by the lengths of the buffers, which no call changes
-abbrev pub pastOf : List Call → Lent → Past
-pastOf calls l = past (length (l .store)) (length (l .memory)) calls
+abbrev pub pastOf : Past → List Call → Lent → Past
+pastOf p calls l = past (length (l .store)) (length (l .memory)) p calls

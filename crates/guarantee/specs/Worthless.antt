@@ -1,4 +1,4 @@
--- Document 01's worthless programs, by what they answer to a history.
+-- Document 01's worthless programs, by what they answer to a history. No promise rests on these definitions: they are there to be shut out.
 -- Assumes nothing.
 use Prim.Native.Nat.{ℕ, _^_}
 use mathlib.Core.Path.{_≡_}
@@ -10,7 +10,7 @@ use Rattle.store.specs.Layout.{slotOf}
 use Rattle.store.specs.declared.Geometry.{Geometry}
 use Rattle.history.specs.History.{Event, inserted, touched, flushed, insertions, shown, examined}
 use Rattle.guarantee.specs.Calls.{Call}
-use Rattle.guarantee.specs.Past.{since, pageOf, past}
+use Rattle.guarantee.specs.Past.{unmade, since, pageOf, past}
 
 -- what a cache shows at an address after a history, and the slots it says it examined for a page
 abbrev pub Shows : Type 0
@@ -21,10 +21,10 @@ Counts = Geometry → List Event → ℕ → ℕ
 
 -- as the guarantee has it, after all calls on buffers of any lengths
 abbrev pub ShowsRight : Shows → Type 0
-ShowsRight f = (size room : ℕ) (calls : List Call) (g : Geometry) (h : List Event) → past size room calls ≡ since g h → (a : ℕ) → f g h a ≡ shown (slotOf g) pageOf h a
+ShowsRight f = (size room : ℕ) (calls : List Call) (g : Geometry) (h : List Event) → past size room unmade calls ≡ since g h → (a : ℕ) → f g h a ≡ shown (slotOf g) pageOf h a
 
 abbrev pub CountsRight : Counts → Type 0
-CountsRight f = (size room : ℕ) (calls : List Call) (g : Geometry) (h : List Event) → past size room calls ≡ since g h → (p : ℕ) → f g h p ≡ examined (slotOf g) pageOf (2 ^ g .e) h p
+CountsRight f = (size room : ℕ) (calls : List Call) (g : Geometry) (h : List Event) → past size room unmade calls ≡ since g h → (p : ℕ) → f g h p ≡ examined (slotOf g) pageOf (2 ^ g .e) h p
 
 -- takes insertions and keeps nothing
 abbrev pub keepsNothing : Shows

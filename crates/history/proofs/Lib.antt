@@ -1,4 +1,4 @@
 -- Theorems on histories.
 pub mod Bound
-pub mod Places
 pub mod Sentences
+pub mod Places

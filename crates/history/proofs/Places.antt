@@ -1,6 +1,6 @@
 -- A cache keeps a place for each slot and a bit for each page; what its places hold after a history answers each lookup as the history says.
 -- Assumes nothing.
-use mathlib.Core.Path.{_≡_, refl, sym, ap, _∙_}
+use mathlib.Core.Path.{_≡_, refl, sym, ap, subst, _∙_}
 use mathlib.Core.Bool.{Bool, true, false, cond, _&&_, _||_, not, true≢false}
 use mathlib.Core.List.{List, [], _∷_}
 use mathlib.Core.Option.{Option, none, some}
@@ -8,6 +8,7 @@ use Prim.Native.Nat.{ℕ}
 use borrow.Author.Tests.{eqb-true, eqb-false, eq-eqb, ne-eqb}
 use lib.Dec.{eqb}
 use Rattle.history.specs.History.{Event, inserted, touched, flushed, Every, none-left, and-then, shown, marked}
+use Rattle.history.proofs.Sentences.{no-some}
 
 pub data Place : Type 0 where
   empty : Place
@@ -129,3 +130,26 @@ module _ (slot page : ℕ → ℕ) where
       go ih false et empty ek s = nothing (eqb p (page a)) (rw ek at ih)
       go ih false et (full b r) ek s = stays b r (eqb b a) (eqb p (page a)) refl refl et (s .1) (rw ek at ih)
   answers (flushed ∷ h) a = refl
+
+  -- so a place is full exactly where the history shows its record, and empty where it shows none in the slot
+  pub full-shown : (h : List Event) (i a : ℕ) (r : List ℕ) → places h i ≡ full a r → (slot a ≡ i) × (shown slot page h a ≡ some r)
+  full-shown h i a r e =
+      let s : slot a ≡ i = subst (Sound h i) e (sound h i) .0 in
+      (s, sym (answers h a) ∙ ap (λ (k : Place). found k a) (ap (places h) s ∙ e) ∙ rw (eq-eqb a a refl))
+
+  pub shown-full : (h : List Event) (a : ℕ) (r : List ℕ) → shown slot page h a ≡ some r → places h (slot a) ≡ full a r
+  shown-full h a r e = go (places h (slot a)) (answers h a ∙ e)
+    where
+      named : (b : ℕ) (q : List ℕ) (t : Bool) → eqb b a ≡ t → cond t (some q) none ≡ some r → full b q ≡ full a r
+      named b q true et k =
+          let same : q ≡ r = cc in
+          let address : b ≡ a = eqb-true b a et in
+          cc
+      named b q false et k = no-some r k
+
+      go : (k : Place) → found k a ≡ some r → k ≡ full a r
+      go empty k = no-some r k
+      go (full b q) k = named b q (eqb b a) refl k
+
+  pub empty-none : (h : List Event) (i a : ℕ) → places h i ≡ empty → slot a ≡ i → shown slot page h a ≡ none
+  empty-none h i a e s = sym (answers h a) ∙ ap (λ (k : Place). found k a) (ap (places h) s ∙ e)
