@@ -86,12 +86,12 @@ touch-apart g h p a r = go (eqb p (pageOf a)) refl
 
 -- and after a write in neither of its pages
 cross-apart : (g : Geometry) (h : List Event) (x y a : ℕ) (r : List ℕ) → shown (slotOf g) pageOf (crossed x y ++ h) a ≡ some r → (pageOf x ≡ pageOf a → ⊥) × (pageOf y ≡ pageOf a → ⊥) × (shown (slotOf g) pageOf h a ≡ some r)
-cross-apart g h x y a r = go (eqb (pageOf x) (pageOf y)) refl
+cross-apart g h x y a r k = go (eqb (pageOf x) (pageOf y)) refl
   where
-    go : (t : Bool) → eqb (pageOf x) (pageOf y) ≡ t → shown (slotOf g) pageOf (cond t (touched (pageOf x) ∷ []) (touched (pageOf y) ∷ touched (pageOf x) ∷ []) ++ h) a ≡ some r → (pageOf x ≡ pageOf a → ⊥) × (pageOf y ≡ pageOf a → ⊥) × (shown (slotOf g) pageOf h a ≡ some r)
-    go true q k = let w = touch-apart g h (pageOf x) a r k in (w .0, λ e. w .0 (eqb-true (pageOf x) (pageOf y) q ∙ e), w .1)
-    go false q k =
-        let w = touch-apart g (touched (pageOf x) ∷ h) (pageOf y) a r k in
+    go : (t : Bool) → eqb (pageOf x) (pageOf y) ≡ t → (pageOf x ≡ pageOf a → ⊥) × (pageOf y ≡ pageOf a → ⊥) × (shown (slotOf g) pageOf h a ≡ some r)
+    go true q = let w = touch-apart g h (pageOf x) a r (rw q at k) in (w .0, λ e. w .0 (eqb-true (pageOf x) (pageOf y) q ∙ e), w .1)
+    go false q =
+        let w = touch-apart g (touched (pageOf x) ∷ h) (pageOf y) a r (rw q at k) in
         let z = touch-apart g h (pageOf x) a r (w .1) in
         (z .0, w .0, z .1)
 
@@ -112,21 +112,22 @@ module _ (form : Former) where
   events-fresh g h m i (flushed ∷ new) (and-then f l) a r e = no-some r e
 
   module _ (local : Local form) where
-    write-still : (g : Geometry) (h : List Event) (s m : List ℕ) → Stands g h s → (at n v : ℕ) → (j : Judged) → writeJudged (Sound g) (length m) at n ≡ j → Fresh form (since g (ifAccepted j (λ k. crossed at (at + n - 1)) [] ++ h)) m → Fresh form (since g (ifAccepted j (λ k. crossed at (at + n - 1)) [] ++ h)) (written j s m at n v .2)
-    write-still g h s m y at n v (Accepted k) e i = accepted k (own .0) (subst (Granted s (length m) at n) (own .0) (own .1))
+    write-still : (g : Geometry) (h : List Event) (s m : List ℕ) → Stands g h s → (at n v : ℕ) → Fresh form (since g (events (length m) g (write at n v) ++ h)) m → Fresh form (since g (events (length m) g (write at n v) ++ h)) (writeCall s m at n v .2)
+    unfolding events
+    write-still g h s m y at n v i = go (writeJudged (Sound g) (length m) at n) refl
       where
-        own : (k ≡ g) × Granted s (length m) at n k
-        own = write-own g h s y (length m) at n k e
-
-        accepted : (k : Geometry) → k ≡ g → Granted s (length m) at n g → Fresh form (since g (crossed at (at + n - 1) ++ h)) (patch m (at - k .base) (le n v))
-        accepted k e t a r q =
+        accepted : (k : Geometry) → k ≡ g → Granted s (length m) at n g → Fresh form (since g (crossed at (at + n - 1) ++ h)) m → Fresh form (since g (crossed at (at + n - 1) ++ h)) (patch m (at - k .base) (le n v))
+        accepted k e t i a r q =
             let w = cross-apart g h at (at + n - 1) a r q in
             let able = fits-accepted g s (y .sound) a r (shown-was (slotOf g) pageOf (Possible g) h (y .possible) a r (w .2)) .able in
             let b = opened-fits s g (y .sound) .bounds in
             ap (λ (z : Geometry). form g (patch m (at - z .base) (le n v)) a) e
             ∙ sym (local g m (patch m (at - g .base) (le n v)) a (sym (length-patch m (at - g .base) (le n v) (room s m at n v g t b))) (untouched s m at n v g t b a able (w .0) (w .1)))
             ∙ i a r q
-    write-still g h s m y at n v (Rejected why) e i = i
+
+        go : (j : Judged) → writeJudged (Sound g) (length m) at n ≡ j → Fresh form (since g (events (length m) g (write at n v) ++ h)) (writeCall s m at n v .2)
+        go (Accepted k) e = let own = write-own g h s y (length m) at n k e in rw (y .sound, e) (accepted k (own .0) (subst (Granted s (length m) at n) (own .0) (own .1)) (rw e at i))
+        go (Rejected why) e = rw (y .sound, e) (rw e at i)
 
     -- a call leaves the memory that what is shown forms from
     still : (g : Geometry) (h : List Event) (l : Lent) → Stands g h (l .store) → (c : Use) → Fresh form (since g (events (length (l .memory)) g c ++ h)) (l .memory) → Fresh form (since g (events (length (l .memory)) g c ++ h)) (done c l .1 .memory)
@@ -136,7 +137,7 @@ module _ (form : Former) where
     still g h l y (notice a) i = i
     still g h l y flush i = i
     still g h l y generation i = i
-    still g h l y (write a n v) i = rw (y .sound) (write-still g h (l .store) (l .memory) y a n v (writeJudged (Sound g) (length (l .memory)) a n) refl i)
+    still g h l y (write a n v) i = write-still g h (l .store) (l .memory) y a n v i
 
     module _ (p : Past) (l : Lent) (start : Follows p (l .store)) (first : Fresh form p (l .memory)) where
       fresh : (calls : List Call) → Honest form p calls l → Fresh form (pastOf p calls l) (run calls l .memory)

@@ -37,11 +37,14 @@ use Rattle.guarantee.proofs.Run.{write-own, kept}
 -- a write in a store that stands for a past
 pub write-is : (g : Geometry) (h : List Event) (s : List ℕ) → Stands g h s → (m : List ℕ) (a n v : ℕ) → writeCall s m a n v .0 ≡ writeAnswered (writeJudged (Sound g) (length m) a n) (reports g h (events (length m) g (write a n v)))
 unfolding events
-write-is g h s y m a n v = rw (y .sound) (go (writeJudged (Sound g) (length m) a n) refl)
+write-is g h s y m a n v = go (writeJudged (Sound g) (length m) a n) refl
   where
-    go : (j : Judged) → writeJudged (Sound g) (length m) a n ≡ j → written j s m a n v .0 ≡ writeAnswered j (reports g h (ifAccepted j (λ k. crossed a (a + n - 1)) []))
-    go (Accepted k) e = ap Written (subst (λ (z : Geometry). writes.touched z s a (a + n - 1) .0 ≡ reports g h (crossed a (a + n - 1))) (sym (write-own g h s y (length m) a n k e .0)) (write-reports g h s y a (a + n - 1)))
-    go (Rejected why) e = refl
+    accepted : (k : Geometry) → k ≡ g → writes.touched k s a (a + n - 1) .0 ≡ reports g h (crossed a (a + n - 1))
+    accepted k e = ap (λ (z : Geometry). writes.touched z s a (a + n - 1) .0) e ∙ write-reports g h s y a (a + n - 1)
+
+    go : (j : Judged) → writeJudged (Sound g) (length m) a n ≡ j → writeCall s m a n v .0 ≡ writeAnswered (writeJudged (Sound g) (length m) a n) (reports g h (events (length m) g (write a n v)))
+    go (Accepted k) e = rw (y .sound, e) (ap Written (accepted k (write-own g h s y (length m) a n k e .0)))
+    go (Rejected why) e = rw (y .sound, e)
 
 module _ (p : Past) (l : Lent) (start : Follows p (l .store)) (calls : List Call) (g : Geometry) (h : List Event) (is : pastOf p calls l ≡ since g h) where
   abbrev now : List ℕ

@@ -135,42 +135,45 @@ module _ (g : Geometry) (h : List Event) (s : List ℕ) (y : Stands g h s) where
       let t = write-granted s room a n k (ap (λ (o : Opened). writeJudged o room a n) (y .sound) ∙ e) in
       (sound-same k g (sym (t .sound) ∙ y .sound), t)
 
-  insert-follows : (a : ℕ) (rec : List ℕ) → Stands g (ifAccepted (insertJudged (Sound g) a rec) (λ k. inserted a rec ∷ []) [] ++ h) (insertCall s a rec .1)
-  insert-follows a rec = rw (y .sound) (go (insertJudged (Sound g) a rec) refl)
-    where
-      accepted : (k : Geometry) → k ≡ g → insertJudged (Sound g) a rec ≡ Accepted k → Stands g (inserted a rec ∷ h) (insertedIn k s a rec)
-      accepted k e j = subst (λ (z : Geometry). Stands g (inserted a rec ∷ h) (insertedIn z s a rec)) (sym e) (insert-keeps g h s y a rec (j ∙ ap Accepted e))
+  module _ (m : List ℕ) where
+    insert-follows : (a : ℕ) (rec : List ℕ) → Stands g (events (length m) g (insert a rec) ++ h) (insertCall s a rec .1)
+    unfolding events
+    insert-follows a rec = go (insertJudged (Sound g) a rec) refl
+      where
+        accepted : (k : Geometry) → k ≡ g → insertJudged (Sound g) a rec ≡ Accepted k → Stands g (inserted a rec ∷ h) (insertedIn k s a rec)
+        accepted k e j = subst (λ (z : Geometry). Stands g (inserted a rec ∷ h) (insertedIn z s a rec)) (sym e) (insert-keeps g h s y a rec (j ∙ ap Accepted e))
 
-      go : (j : Judged) → insertJudged (Sound g) a rec ≡ j → Stands g (ifAccepted j (λ k. inserted a rec ∷ []) [] ++ h) (cache.inserted j s a rec .1)
-      go (Accepted k) e = accepted k (insert-own a rec k e) e
-      go (Rejected why) e = y
+        go : (j : Judged) → insertJudged (Sound g) a rec ≡ j → Stands g (events (length m) g (insert a rec) ++ h) (insertCall s a rec .1)
+        go (Accepted k) e = rw (y .sound, e) (accepted k (insert-own a rec k e) e)
+        go (Rejected why) e = rw (y .sound, e) y
 
-  write-follows : (m : List ℕ) (a n v : ℕ) → Stands g (ifAccepted (writeJudged (Sound g) (length m) a n) (λ k. crossed a (a + n - 1)) [] ++ h) (writeCall s m a n v .1)
-  write-follows m a n v = rw (y .sound) (go (writeJudged (Sound g) (length m) a n) refl)
-    where
-      go : (j : Judged) → writeJudged (Sound g) (length m) a n ≡ j → Stands g (ifAccepted j (λ k. crossed a (a + n - 1)) [] ++ h) (written j s m a n v .1)
-      go (Accepted k) e = subst (λ (z : Geometry). Stands g (crossed a (a + n - 1) ++ h) (writes.touched z s a (a + n - 1) .1)) (sym (write-own (length m) a n k e .0)) (write-keeps g h s y a (a + n - 1))
-      go (Rejected why) e = y
+    write-follows : (a n v : ℕ) → Stands g (events (length m) g (write a n v) ++ h) (writeCall s m a n v .1)
+    unfolding events
+    write-follows a n v = go (writeJudged (Sound g) (length m) a n) refl
+      where
+        accepted : (k : Geometry) → k ≡ g → Stands g (crossed a (a + n - 1) ++ h) (writes.touched k s a (a + n - 1) .1)
+        accepted k e = subst (λ (z : Geometry). Stands g (crossed a (a + n - 1) ++ h) (writes.touched z s a (a + n - 1) .1)) (sym e) (write-keeps g h s y a (a + n - 1))
+
+        go : (j : Judged) → writeJudged (Sound g) (length m) a n ≡ j → Stands g (events (length m) g (write a n v) ++ h) (writeCall s m a n v .1)
+        go (Accepted k) e = rw (y .sound, e) (accepted k (write-own (length m) a n k e .0))
+        go (Rejected why) e = rw (y .sound, e) y
 
 keeps : (g : Geometry) (h : List Event) (l : Lent) → Stands g h (l .store) → (c : Use) → Stands g (events (length (l .memory)) g c ++ h) (done c l .1 .store)
 unfolding events done
 keeps g h l y (lookup a) = y
-keeps g h l y (insert a rec) = insert-follows g h (l .store) y a rec
+keeps g h l y (insert a rec) = insert-follows g h (l .store) y (l .memory) a rec
 keeps g h l y (notice a) = rw (y .sound) (notice-keeps g h (l .store) y a)
 keeps g h l y flush = rw (y .sound) (flush-keeps g h (l .store) y)
 keeps g h l y generation = y
 keeps g h l y (write a n v) = write-follows g h (l .store) y (l .memory) a n v
 
 make-follows : (e base pages : ℕ) (p : Past) (s : List ℕ) → Follows p s → Follows (ifAccepted (makeJudged e base pages (length s)) (λ g. since g []) p) (makeCall e base pages s .1)
-make-follows e base pages p s y = go (inBounds e base pages) refl (eqb (length s) (storeSize g))
+make-follows e base pages p s y = go (inBounds e base pages) refl (eqb (length s) (storeSize (geometry e base pages))) refl
   where
-    g : Geometry
-    g = geometry e base pages
-
-    go : (x : Bool) → inBounds e base pages ≡ x → (z : Bool) → Follows (ifAccepted (cond x (cond z (Accepted g) (Rejected NoStore)) (Rejected BadGeometry)) (λ g. since g []) p) (made (cond x (cond z (Accepted g) (Rejected NoStore)) (Rejected BadGeometry)) s .1)
-    go true ex true = make-keeps e base pages ex
-    go true ex false = y
-    go false ex z = y
+    go : (x : Bool) → inBounds e base pages ≡ x → (z : Bool) → eqb (length s) (storeSize (geometry e base pages)) ≡ z → Follows (ifAccepted (makeJudged e base pages (length s)) (λ g. since g []) p) (makeCall e base pages s .1)
+    go true ex true ez = rw (ex, ez) (make-keeps e base pages ex)
+    go true ex false ez = rw (ex, ez) y
+    go false ex z ez = rw ex y
 
 -- both buffers, after calls that told this past
 pub record Kept (size room : ℕ) (p : Past) (l : Lent) : Type 0 where

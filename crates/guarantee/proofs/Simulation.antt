@@ -228,26 +228,26 @@ alone r = ap (λ (n : ℕ). record { examined = n }) (sum (r .examined))
 
 -- the notices of a write from a to b
 module _ (g : Geometry) (h : List Event) (s : List ℕ) (y : Stands g h s) (a b : ℕ) where
+  second : Stands g (touched (pageOf a) ∷ h) (noticedIn g s a .1)
+  second = notice-keeps g h s y a
+
   pub write-reports : writes.touched g s a b .0 ≡ reports g h (crossed a b)
   unfolding reports
-  write-reports = go (eqb (pageOf a) (pageOf b))
+  write-reports = go (eqb (pageOf a) (pageOf b)) refl
     where
       first : noticedIn g s a .0 ≡ summed (record { examined = 0 }) (report g h (pageOf a))
       first = notice-reports g h s y a ∙ sym (alone (report g h (pageOf a)))
 
-      second : noticedIn g (noticedIn g s a .1) b .0 ≡ report g (touched (pageOf a) ∷ h) (pageOf b)
-      second = notice-reports g (touched (pageOf a) ∷ h) (noticedIn g s a .1) (notice-keeps g h s y a) b
-
-      go : (t : Bool) → cond {A = Report × List ℕ} t (noticedIn g s a) (andThen g (noticedIn g s a) b) .0 ≡ reports g h (cond t (touched (pageOf a) ∷ []) (touched (pageOf b) ∷ touched (pageOf a) ∷ []))
-      go true = first
-      go false = ap₂ summed first second
+      go : (t : Bool) → eqb (pageOf a) (pageOf b) ≡ t → writes.touched g s a b .0 ≡ reports g h (crossed a b)
+      go true e = rw e first
+      go false e = rw e (ap₂ summed first (notice-reports g (touched (pageOf a) ∷ h) (noticedIn g s a .1) second b))
 
   pub write-keeps : Stands g (crossed a b ++ h) (writes.touched g s a b .1)
-  write-keeps = go (eqb (pageOf a) (pageOf b))
+  write-keeps = go (eqb (pageOf a) (pageOf b)) refl
     where
-      go : (t : Bool) → Stands g (cond t (touched (pageOf a) ∷ []) (touched (pageOf b) ∷ touched (pageOf a) ∷ []) ++ h) (cond {A = Report × List ℕ} t (noticedIn g s a) (andThen g (noticedIn g s a) b) .1)
-      go true = notice-keeps g h s y a
-      go false = notice-keeps g (touched (pageOf a) ∷ h) (noticedIn g s a .1) (notice-keeps g h s y a) b
+      go : (t : Bool) → eqb (pageOf a) (pageOf b) ≡ t → Stands g (crossed a b ++ h) (writes.touched g s a b .1)
+      go true e = rw e second
+      go false e = rw e (notice-keeps g (touched (pageOf a) ∷ h) (noticedIn g s a .1) second b)
 
 -- a new store
 pub make-keeps : (e base pages : ℕ) → inBounds e base pages ≡ true → Stands (geometry e base pages) [] (header (geometry e base pages) 1 ++ blank (geometry e base pages))

@@ -40,19 +40,19 @@ added g h (flushed ∷ new) = added g h new
 reported : (g : Geometry) (h : List Event) (l : Lent) → Stands g h (l .store) → (c : Use) → done c l .0 ≡ reports g h (events (length (l .memory)) g c) .examined
 unfolding done events reports
 reported g h l y (lookup a) = refl
-reported g h l y (insert a rec) = go (insertJudged (Sound g) a rec)
+reported g h l y (insert a rec) = go (insertJudged (Sound g) a rec) refl
   where
-    go : (j : Judged) → 0 ≡ reports g h (ifAccepted j (λ k. inserted a rec ∷ []) []) .examined
-    go (Accepted k) = refl
-    go (Rejected why) = refl
+    go : (j : Judged) → insertJudged (Sound g) a rec ≡ j → 0 ≡ reports g h (events (length (l .memory)) g (insert a rec)) .examined
+    go (Accepted k) e = rw e
+    go (Rejected why) e = rw e
 reported g h l y (notice a) = rw (y .sound) (ap (λ (r : Report). r .examined) (notice-reports g h (l .store) y a ∙ sym (alone (report g h (pageOf a)))))
 reported g h l y flush = refl
 reported g h l y generation = refl
-reported g h l y (write a n v) = ap writeValue (write-is g h (l .store) y (l .memory) a n v) ∙ go (writeJudged (Sound g) (length (l .memory)) a n)
+reported g h l y (write a n v) = ap writeValue (write-is g h (l .store) y (l .memory) a n v) ∙ go (writeJudged (Sound g) (length (l .memory)) a n) refl
   where
-    go : (j : Judged) → writeValue (writeAnswered j (reports g h (ifAccepted j (λ k. crossed a (a + n - 1)) []))) ≡ reports g h (ifAccepted j (λ k. crossed a (a + n - 1)) []) .examined
-    go (Accepted k) = refl
-    go (Rejected why) = refl
+    go : (j : Judged) → writeJudged (Sound g) (length (l .memory)) a n ≡ j → writeValue (writeAnswered (writeJudged (Sound g) (length (l .memory)) a n) (reports g h (events (length (l .memory)) g (write a n v)))) ≡ reports g h (events (length (l .memory)) g (write a n v)) .examined
+    go (Accepted k) e = rw e
+    go (Rejected why) e = rw e
 
 abbrev Paid : Past → ℕ → Type 0
 Paid unmade n = Unit {0}
