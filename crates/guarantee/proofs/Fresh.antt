@@ -26,14 +26,14 @@ use Rattle.cache.specs.declared.Judged.the-variants.{Accepted, Rejected}
 use Rattle.cache.proofs.Checks.{opened-fits}
 use Rattle.write.specs.Write.{writeJudged, written, writeCall}
 use Rattle.write.proofs.Granted.{Granted}
-use Rattle.history.specs.History.{Event, inserted, touched, flushed, Every, none-left, and-then, shown}
+use Rattle.history.specs.History.{Event, inserted, touched, flushed, Every, none-left, and-then, OfInserted, shown}
 use Rattle.history.proofs.Sentences.{no-some, shown-was}
 use Rattle.guarantee.specs.Held.{recordIn}
 use Rattle.guarantee.specs.Calls.{Use, lookup, insert, notice, flush, generation, write, Call, make, uses, Lent, done, run, lookedUp}
 use Rattle.guarantee.specs.Past.{Past, unmade, since, pageOf, ifAccepted, crossed, events, told, past, pastOf}
-use Rattle.guarantee.specs.Stands.{Possible, Stands, Follows}
-use Rattle.guarantee.specs.Honest.{Former, Local, Fresh, Held, Honest}
-use Rattle.guarantee.proofs.Simulation.{fits-accepted}
+use Rattle.guarantee.specs.Stands.{Stands, Follows}
+use Rattle.guarantee.specs.Honest.{Former, Local, Fresh, Honest}
+use Rattle.guarantee.proofs.Simulation.{Possible, fits-accepted}
 use Rattle.guarantee.proofs.Run.{write-own, kept}
 use Rattle.guarantee.proofs.Guarantee.{hit-shown}
 
@@ -96,8 +96,11 @@ cross-apart g h x y a r k = go (eqb (pageOf x) (pageOf y)) refl
         (z .0, w .0, z .1)
 
 module _ (form : Former) where
+  abbrev Held : Geometry → List ℕ → Event → Type 0
+  Held g m = OfInserted (λ a r. form g m a ≡ (0, r))
+
   -- events whose insertions held what forms from this memory
-  events-fresh : (g : Geometry) (h : List Event) (m : List ℕ) → Fresh form (since g h) m → (new : List Event) → Every (Held form g m) new → Fresh form (since g (new ++ h)) m
+  events-fresh : (g : Geometry) (h : List Event) (m : List ℕ) → Fresh form (since g h) m → (new : List Event) → Every (Held g m) new → Fresh form (since g (new ++ h)) m
   unfolding shown
   events-fresh g h m i [] none-left a r e = i a r e
   events-fresh g h m i (inserted b rec ∷ new) (and-then f l) a r e = go (events-fresh g h m i new l a r) (eqb b a) refl (eqb (slotOf g b) (slotOf g a)) e
@@ -119,7 +122,7 @@ module _ (form : Former) where
         accepted : (k : Geometry) → k ≡ g → Granted s (length m) at n g → Fresh form (since g (crossed at (at + n - 1) ++ h)) m → Fresh form (since g (crossed at (at + n - 1) ++ h)) (patch m (at - k .base) (le n v))
         accepted k e t i a r q =
             let w = cross-apart g h at (at + n - 1) a r q in
-            let able = fits-accepted g s (y .sound) a r (shown-was (slotOf g) pageOf (Possible g) h (y .possible) a r (w .2)) .able in
+            let able = fits-accepted g s (y .sound) a r (shown-was (slotOf g) pageOf (Possible g) h (y .accepted) a r (w .2)) .able in
             let b = opened-fits s g (y .sound) .bounds in
             ap (λ (z : Geometry). form g (patch m (at - z .base) (le n v)) a) e
             ∙ sym (local g m (patch m (at - g .base) (le n v)) a (sym (length-patch m (at - g .base) (le n v) (room s m at n v g t b))) (untouched s m at n v g t b a able (w .0) (w .1)))
@@ -140,7 +143,8 @@ module _ (form : Former) where
     still g h l y (write a n v) i = write-still g h (l .store) (l .memory) y a n v i
 
     module _ (p : Past) (l : Lent) (start : Follows p (l .store)) (first : Fresh form p (l .memory)) where
-      fresh : (calls : List Call) → Honest form p calls l → Fresh form (pastOf p calls l) (run calls l .memory)
+      -- what the past shows is what forms now
+      pub fresh : (calls : List Call) → Honest form p calls l → Fresh form (pastOf p calls l) (run calls l .memory)
       unfolding past run Honest shown
       fresh [] o = first
       fresh (make e base pages ∷ calls) o = go (makeJudged e base pages (length (l .store))) (pastOf p calls l) (fresh calls o)
@@ -153,7 +157,7 @@ module _ (form : Former) where
           go : (z : Past) → pastOf p calls l ≡ z → Follows z (run calls l .store) → Fresh form z (run calls l .memory) → Fresh form (told (length (l .memory)) c z) (done c (run calls l) .1 .memory)
           go unmade e y i = tt
           go (since g h) e y i =
-              subst (λ (n : ℕ). Every (Held form g (run calls l .memory)) (events n g c) → Fresh form (since g (events n g c ++ h)) (done c (run calls l) .1 .memory))
+              subst (λ (n : ℕ). Every (Held g (run calls l .memory)) (events n g c) → Fresh form (since g (events n g c ++ h)) (done c (run calls l) .1 .memory))
               (kept p l start calls .roomy)
               (λ f. still g h (run calls l) y c (events-fresh g h (run calls l .memory) i (events (length (run calls l .memory)) g c) f))
               (o .0 g h e)

@@ -28,9 +28,9 @@ use Rattle.history.proofs.Sentences.{shown-lives, lives-shown, marked-is, is-ma
 use Rattle.guarantee.specs.Held.{recordIn}
 use Rattle.guarantee.specs.Calls.{write, Call, Lent, run, lookedUp}
 use Rattle.guarantee.specs.Past.{Past, since, pageOf, ifAccepted, crossed, events, pastOf}
-use Rattle.guarantee.specs.Stands.{Possible, Stands, Follows}
+use Rattle.guarantee.specs.Stands.{Stands, Follows}
 use Rattle.guarantee.specs.Answers.{lookupAnswered, partFor, report, reports, makeAnswered, insertAnswered, writeAnswered}
-use Rattle.guarantee.proofs.Simulation.{fits-accepted, notice-reports, write-reports}
+use Rattle.guarantee.proofs.Simulation.{Possible, fits-accepted, notice-reports, write-reports}
 use Rattle.guarantee.proofs.Lookup.{lookup-is, lookup-returns}
 use Rattle.guarantee.proofs.Run.{write-own, kept}
 
@@ -47,75 +47,69 @@ write-is g h s y m a n v = go (writeJudged (Sound g) (length m) a n) refl
     go (Rejected why) e = rw (y .sound, e)
 
 module _ (p : Past) (l : Lent) (start : Follows p (l .store)) (calls : List Call) (g : Geometry) (h : List Event) (is : pastOf p calls l ≡ since g h) where
-  abbrev now : List ℕ
-  now = run calls l .store
-
-  abbrev memory : List ℕ
-  memory = run calls l .memory
-
-  pub stands : Stands g h now
-  stands = subst (λ (z : Past). Follows z now) is (kept p l start calls .follows)
+  pub stands : Stands g h (run calls l .store)
+  stands = subst (λ (z : Past). Follows z (run calls l .store)) is (kept p l start calls .follows)
 
   -- a lookup's answer: its slot's place where the past shows a record, nothing found where it shows none
-  pub lookup-answers : (a : ℕ) → lookupCall now a ≡ lookupAnswered g a (shown (slotOf g) pageOf h a)
-  lookup-answers a = lookup-is g h now stands a
+  pub lookup-answers : (a : ℕ) → lookupCall (run calls l .store) a ≡ lookupAnswered g a (shown (slotOf g) pageOf h a)
+  lookup-answers a = lookup-is g h (run calls l .store) stands a
 
   -- and the part that it returns: what a place holds for the record that the past shows, byte for byte
   pub hits : (a : ℕ) → lookedUp (run calls l) a ≡ partFor g (shown (slotOf g) pageOf h a)
-  hits a = lookup-returns g h now stands a
+  hits a = lookup-returns g h (run calls l .store) stands a
 
-  -- with number 0 the past shows the record that the part shows
-  pub hit-shown : (a : ℕ) → lookupNumber (lookupCall now a) ≡ 0 → shown (slotOf g) pageOf h a ≡ some (recordIn g (lookedUp (run calls l) a))
+  -- where the past shows a record the number is 0 and the part shows that record; and the other way round
+  shown-hit : (a : ℕ) (r : List ℕ) → shown (slotOf g) pageOf h a ≡ some r → (lookupNumber (lookupCall (run calls l .store) a) ≡ 0) × (recordIn g (lookedUp (run calls l) a) ≡ r)
+  shown-hit a r e =
+      let fits = fits-accepted g (run calls l .store) (stands .sound) a r (shown-was (slotOf g) pageOf (Possible g) h (stands .accepted) a r e) in
+      (ap lookupNumber (lookup-answers a ∙ ap (lookupAnswered g a) e), ap (recordIn g) (hits a ∙ ap (partFor g) e) ∙ fits .back)
+
+  pub hit-shown : (a : ℕ) → lookupNumber (lookupCall (run calls l .store) a) ≡ 0 → shown (slotOf g) pageOf h a ≡ some (recordIn g (lookedUp (run calls l) a))
   hit-shown a e = go (shown (slotOf g) pageOf h a) refl (ap lookupNumber (sym (lookup-answers a)) ∙ e)
     where
       go : (o : Option (List ℕ)) → shown (slotOf g) pageOf h a ≡ o → lookupNumber (lookupAnswered g a o) ≡ 0 → o ≡ some (recordIn g (lookedUp (run calls l) a))
-      go (some r) k z =
-          let f = fits-accepted g now (stands .sound) a r (shown-was (slotOf g) pageOf (Possible g) h (stands .possible) a r k) in
-          ap some (sym (ap (recordIn g) (hits a ∙ ap (partFor g) k) ∙ f .back))
+      go (some r) k z = ap some (sym (shown-hit a r k .1))
       go none k z = absurd (omega (arith, z))
 
   -- in demand 3's words: a lookup hits exactly when its address had an accepted insertion, and since came none in its slot, no notice or write in its page, and no flush; and it shows that record
-  pub hit-lives : (a : ℕ) → lookupNumber (lookupCall now a) ≡ 0 → Lives (slotOf g) pageOf h a (recordIn g (lookedUp (run calls l) a))
+  pub hit-lives : (a : ℕ) → lookupNumber (lookupCall (run calls l .store) a) ≡ 0 → Lives (slotOf g) pageOf h a (recordIn g (lookedUp (run calls l) a))
   hit-lives a e = shown-lives (slotOf g) pageOf h a _ (hit-shown a e)
 
-  pub lives-hit : (a : ℕ) (r : List ℕ) → Lives (slotOf g) pageOf h a r → (lookupNumber (lookupCall now a) ≡ 0) × (recordIn g (lookedUp (run calls l) a) ≡ r)
-  lives-hit a r e =
-      let k = lives-shown (slotOf g) pageOf h a r e in
-      let f = fits-accepted g now (stands .sound) a r (shown-was (slotOf g) pageOf (Possible g) h (stands .possible) a r k) in
-      (ap lookupNumber (lookup-answers a ∙ ap (lookupAnswered g a) k), ap (recordIn g) (hits a ∙ ap (partFor g) k) ∙ f .back)
+  pub lives-hit : (a : ℕ) (r : List ℕ) → Lives (slotOf g) pageOf h a r → (lookupNumber (lookupCall (run calls l .store) a) ≡ 0) × (recordIn g (lookedUp (run calls l) a) ≡ r)
+  lives-hit a r e = shown-hit a r (lives-shown (slotOf g) pageOf h a r e)
 
   -- which calls are accepted, and what notices and writes report
-  pub make-answers : (e base pages : ℕ) → makeCall e base pages now .0 ≡ makeAnswered (makeJudged e base pages (length (l .store)))
-  make-answers e base pages = go (makeJudged e base pages (length now)) ∙ ap (λ (n : ℕ). makeAnswered (makeJudged e base pages n)) (kept p l start calls .stored)
+  pub make-answers : (e base pages : ℕ) → makeCall e base pages (run calls l .store) .0 ≡ makeAnswered (makeJudged e base pages (length (l .store)))
+  make-answers e base pages = go (makeJudged e base pages (length (run calls l .store))) ∙ ap (λ (n : ℕ). makeAnswered (makeJudged e base pages n)) (kept p l start calls .stored)
     where
-      go : (j : Judged) → made j now .0 ≡ makeAnswered j
+      go : (j : Judged) → made j (run calls l .store) .0 ≡ makeAnswered j
       go (Accepted k) = refl
       go (Rejected why) = refl
 
-  pub insert-answers : (a : ℕ) (rec : List ℕ) → insertCall now a rec .0 ≡ insertAnswered (insertJudged (Sound g) a rec)
+  pub insert-answers : (a : ℕ) (rec : List ℕ) → insertCall (run calls l .store) a rec .0 ≡ insertAnswered (insertJudged (Sound g) a rec)
   insert-answers a rec = rw (stands .sound) (go (insertJudged (Sound g) a rec))
     where
-      go : (j : Judged) → cache.inserted j now a rec .0 ≡ insertAnswered j
+      go : (j : Judged) → cache.inserted j (run calls l .store) a rec .0 ≡ insertAnswered j
       go (Accepted k) = refl
       go (Rejected why) = refl
 
-  pub notice-answers : (a : ℕ) → noticeCall now a .0 ≡ Noticed (report g h (pageOf a))
-  notice-answers a = rw (stands .sound) (ap Noticed (notice-reports g h now stands a))
+  pub notice-answers : (a : ℕ) → noticeCall (run calls l .store) a .0 ≡ Noticed (report g h (pageOf a))
+  notice-answers a = rw (stands .sound) (ap Noticed (notice-reports g h (run calls l .store) stands a))
 
   -- in document 01's words: every slot exactly when the page had an accepted insertion, and since came no notice or write in it, and no flush
-  pub examines-all : (a : ℕ) → Marked (slotOf g) pageOf h (pageOf a) → noticeCall now a .0 ≡ Noticed (record { examined = 2 ^ g .e })
+  pub examines-all : (a : ℕ) → Marked (slotOf g) pageOf h (pageOf a) → noticeCall (run calls l .store) a .0 ≡ Noticed (record { examined = 2 ^ g .e })
   examines-all a m = notice-answers a ∙ rw (is-marked (slotOf g) pageOf h (pageOf a) m)
 
-  pub examines-none : (a : ℕ) → (Marked (slotOf g) pageOf h (pageOf a) → ⊥) → noticeCall now a .0 ≡ Noticed (record { examined = 0 })
+  pub examines-none : (a : ℕ) → (Marked (slotOf g) pageOf h (pageOf a) → ⊥) → noticeCall (run calls l .store) a .0 ≡ Noticed (record { examined = 0 })
   examines-none a n = notice-answers a ∙ rw (not-true (marked (slotOf g) pageOf h (pageOf a)) (λ e. n (marked-is (slotOf g) pageOf h (pageOf a) e)))
 
-  pub flush-answers : flushCall now .0 ≡ Flushed
+  pub flush-answers : flushCall (run calls l .store) .0 ≡ Flushed
   flush-answers = rw (stands .sound)
 
-  pub generation-answers : generationCall now ≡ GenerationIs ((insertions h + 1) % 2 ^ 64)
+  pub generation-answers : generationCall (run calls l .store) ≡ GenerationIs ((insertions h + 1) % 2 ^ 64)
   generation-answers = rw (stands .sound) (ap GenerationIs (stands .age))
 
-  pub write-answers : (a n v : ℕ) → writeCall now memory a n v .0 ≡ writeAnswered (writeJudged (Sound g) (length (l .memory)) a n) (reports g h (events (length (l .memory)) g (write a n v)))
+  pub write-answers : (a n v : ℕ) → writeCall (run calls l .store) (run calls l .memory) a n v .0 ≡ writeAnswered (writeJudged (Sound g) (length (l .memory)) a n) (reports g h (events (length (l .memory)) g (write a n v)))
   write-answers a n v =
-      write-is g h now stands memory a n v
+      write-is g h (run calls l .store) stands (run calls l .memory) a n v
       ∙ ap (λ (z : ℕ). writeAnswered (writeJudged (Sound g) z a n) (reports g h (events z g (write a n v)))) (kept p l start calls .roomy)

@@ -28,12 +28,12 @@ use Rattle.cache.proofs.Checks.{opened-fits, may-holds, insert-taken}
 use Rattle.cache.proofs.View.{opened-evicted, generation-evicted, bits-evicted, place-evicted}
 use Rattle.write.specs.Write.{summed, andThen}
 use Rattle.write.specs.Write as writes
-use Rattle.history.specs.History.{Event, inserted, touched, flushed, Every, none-left, and-then, insertions, shown, marked}
+use Rattle.history.specs.History.{Event, inserted, touched, flushed, Every, none-left, and-then, OfInserted, insertions, shown, marked}
 use Rattle.history.proofs.Sentences.{no-some}
 use Rattle.history.proofs.Places.{Place, empty, full, swept, places, Was, was, full-shown, shown-full, empty-none}
 use Rattle.guarantee.specs.Held.{placeFor, recordIn}
 use Rattle.guarantee.specs.Past.{pageOf, crossed}
-use Rattle.guarantee.specs.Stands.{Possible, Stands}
+use Rattle.guarantee.specs.Stands.{Stands}
 use Rattle.guarantee.specs.Answers.{report, reports}
 use Rattle.guarantee.proofs.Held.{place-long, place-named, record-back, opened-inserted, generation-inserted, bits-inserted, place-inserted}
 
@@ -48,6 +48,10 @@ pub fits-accepted : (g : Geometry) (s : List ℕ) → opened s ≡ Sound g → (
 fits-accepted g s o a r e =
     let t = insert-taken s a r g (ap (λ (z : Opened). insertJudged z a r) o ∙ e) in
     record { able = may-holds g a (t .inner); long = place-long g r s o (t .whole); named = place-named g r a (t .formed); back = record-back g r a (t .formed) }
+
+-- no refused insertion
+abbrev pub Possible : Geometry → Event → Type 0
+Possible g = OfInserted (λ a r. insertJudged (Sound g) a r ≡ Accepted g)
 
 -- the bytes of a place
 abbrev pub bytesOf : Geometry → Place → List ℕ
@@ -64,13 +68,13 @@ module _ (g : Geometry) (h : List Event) (s : List ℕ) where
       go (full a r) e = let w = full-shown (slotOf g) pageOf h i a r e in subst (λ (j : ℕ). placeIn g s j ≡ placeFor g r) (w .0) (y .full a r (w .1))
 
   pub standing : opened s ≡ Sound g → generationOf s ≡ (insertions h + 1) % 2 ^ 64 → ((i : ℕ) → i < 2 ^ g .e → placeIn g s i ≡ bytesOf g (places (slotOf g) pageOf h i)) → ((q : ℕ) → q < g .pages → pageBit s q ≡ marked (slotOf g) pageOf h (pageOf (g .base) + q)) → Every (Possible g) h → Stands g h s
-  standing o age place bits possible = record {
+  standing o age place bits accepted = record {
     sound = o;
     age = age;
     full = λ a r e. place (slotOf g a) (slot-lt g a) ∙ ap (bytesOf g) (shown-full (slotOf g) pageOf h a r e);
     vacant = λ i c n. place i c ∙ ap (bytesOf g) (none-there i n (places (slotOf g) pageOf h i) refl);
     bits = bits;
-    possible = possible;
+    accepted = accepted;
   }
     where
       none-there : (i : ℕ) → ((a : ℕ) → slotOf g a ≡ i → shown (slotOf g) pageOf h a ≡ none) → (k : Place) → places (slotOf g) pageOf h i ≡ k → k ≡ empty
@@ -115,7 +119,7 @@ module _ (g : Geometry) (h : List Event) (s : List ℕ) (y : Stands g h s) where
 
   -- what a place holds was accepted
   pub fitted : (i : ℕ) → Fitted g (places (slotOf g) pageOf h i)
-  fitted i = go (places (slotOf g) pageOf h i) (was (slotOf g) pageOf (Possible g) h (y .possible) i)
+  fitted i = go (places (slotOf g) pageOf h i) (was (slotOf g) pageOf (Possible g) h (y .accepted) i)
     where
       go : (k : Place) → Was (slotOf g) pageOf (Possible g) k → Fitted g k
       go empty w = tt
@@ -127,7 +131,7 @@ module _ (g : Geometry) (h : List Event) (s : List ℕ) (y : Stands g h s) where
       standing g (flushed ∷ h) (take 32 s ++ blank g) (opened-flushed g s fits ∙ y .sound) (generation-flushed g s fits ∙ y .age)
       (λ i c. place-flushed g s fits i c)
       (λ q c. bits-flushed g s fits q c)
-      (and-then tt (y .possible))
+      (and-then tt (y .accepted))
 
   pub insert-keeps : (a : ℕ) (r : List ℕ) → insertJudged (Sound g) a r ≡ Accepted g → Stands g (inserted a r ∷ h) (insertedIn g s a r)
   unfolding marked places insertions
@@ -137,7 +141,7 @@ module _ (g : Geometry) (h : List Event) (s : List ℕ) (y : Stands g h s) where
       (generation-inserted g s fits a (f .able) r (f .long) ∙ ap (λ (n : ℕ). (n + 1) % 2 ^ 64) (y .age) ∙ mod-add-mod (insertions h + 1) (2 ^ 64) 1 ∙ ap (λ (n : ℕ). n % 2 ^ 64) one-more)
       (λ i c. place-inserted g s fits a (f .able) r (f .long) i ∙ one (places (slotOf g) pageOf h i) (placeIn g s i) (eqb (slotOf g a) i) (place-is g h s y i c))
       (λ q c. bits-inserted g s fits a (f .able) r (f .long) q c ∙ rw (same-test g a q (fits .bounds) (f .able)) (bit (eqb (pageOf a) (pageOf (g .base) + q)) _ _ (y .bits q c)))
-      (and-then e (y .possible))
+      (and-then e (y .accepted))
     where
       one-more : insertions h + 1 + 1 ≡ suc (insertions h) + 1
       one-more = omega arith
@@ -173,7 +177,7 @@ module _ (g : Geometry) (h : List Event) (s : List ℕ) (y : Stands g h s) where
     where
       go : (t : Bool) → holds g a ≡ t → (t && pageBit s ((a - g .base) / 4096)) ≡ marked (slotOf g) pageOf h (pageOf a)
       go true e = y .bits ((a - g .base) / 4096) (page-lt g a e) ∙ ap (marked (slotOf g) pageOf h) (sym (page-shift g a (fits .bounds) e))
-      go false e = sym (outside a e h (y .possible))
+      go false e = sym (outside a e h (y .accepted))
 
   -- a notice
   module _ (a : ℕ) where
@@ -183,7 +187,7 @@ module _ (g : Geometry) (h : List Event) (s : List ℕ) (y : Stands g h s) where
         standing g (touched (pageOf a) ∷ h) (evicted g s a) (opened-evicted g s fits a o ∙ y .sound) (generation-evicted g s fits a o ∙ y .age)
         (λ i c. place-evicted g s fits a o i c ∙ ap (emptied (a / 4096)) (place-is g h s y i c) ∙ rw m (scanned g (pageOf a) (places (slotOf g) pageOf h i) (fits .bounds) (fitted i)))
         (λ q c. bits-evicted g s fits a o q c ∙ rw (same-test g a q (fits .bounds) o) (bit (eqb (pageOf a) (pageOf (g .base) + q)) _ _ (y .bits q c)))
-        (and-then tt (y .possible))
+        (and-then tt (y .accepted))
       where
         bit : (t u v : Bool) → u ≡ v → cond t false u ≡ (not t && v)
         bit true u v e = refl
@@ -195,7 +199,7 @@ module _ (g : Geometry) (h : List Event) (s : List ℕ) (y : Stands g h s) where
         standing g (touched (pageOf a) ∷ h) s (y .sound) (y .age)
         (λ i c. rw m (place-is g h s y i c))
         (λ q c. y .bits q c ∙ bit (pageOf (g .base) + q))
-        (and-then tt (y .possible))
+        (and-then tt (y .accepted))
       where
         bit : (q : ℕ) → marked (slotOf g) pageOf h q ≡ (not (eqb (pageOf a) q) && marked (slotOf g) pageOf h q)
         bit q = decide (pageOf a) q (λ e. rw (eq-eqb (pageOf a) q e) (ap (marked (slotOf g) pageOf h) (sym e) ∙ m)) (λ n. rw (ne-eqb (pageOf a) q n))

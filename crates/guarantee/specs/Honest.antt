@@ -1,5 +1,4 @@
--- The premises of demand 3's second sentence: each accepted insertion held the block formed from the bytes then present, and what the past at the start
--- shows is what formed from the bytes at the start.
+-- Demand 3's second sentence: each accepted insertion held the block formed from the bytes then present; and what a store shows is what forms now.
 -- Assumes nothing.
 use Prim.Native.Nat.{ℕ}
 use mathlib.Core.Path.{_≡_}
@@ -11,7 +10,7 @@ use Rattle.form.specs.Forming.{Reading}
 use Rattle.form.specs.Call.{formCall}
 use Rattle.store.specs.Layout.{slotOf}
 use Rattle.store.specs.declared.Geometry.{Geometry}
-use Rattle.history.specs.History.{Event, inserted, touched, flushed, Every, shown}
+use Rattle.history.specs.History.{Event, Every, OfInserted, shown}
 use Rattle.guarantee.specs.Calls.{Call, make, uses, Lent, run}
 use Rattle.guarantee.specs.Past.{Past, unmade, since, pageOf, events, pastOf}
 
@@ -33,16 +32,10 @@ module _ (form : Former) where
   Fresh unmade m = Unit {0}
   Fresh (since g h) m = (a : ℕ) (r : List ℕ) → shown (slotOf g) pageOf h a ≡ some r → form g m a ≡ (0, r)
 
-  -- an insertion held what forms from this memory
-  abbrev pub Held : Geometry → List ℕ → Event → Type 0
-  Held g m (inserted a rec) = form g m a ≡ (0, rec)
-  Held g m (touched p) = Unit {0}
-  Held g m flushed = Unit {0}
-
-  -- so did all insertions of a list of calls, each from the memory that the calls before it left
+  -- each accepted insertion of a list of calls held what formed from the memory that the calls before it left
   unfoldable pub Honest : Past → List Call → Lent → Type 0
   Honest p [] l = Unit {0}
   Honest p (make e base pages ∷ calls) l = Honest p calls l
   Honest p (uses c ∷ calls) l =
-      ((g : Geometry) (h : List Event) → pastOf p calls l ≡ since g h → Every (Held g (run calls l .memory)) (events (length (l .memory)) g c))
+      ((g : Geometry) (h : List Event) → pastOf p calls l ≡ since g h → Every (OfInserted (λ a r. form g (run calls l .memory) a ≡ (0, r))) (events (length (l .memory)) g c))
       × Honest p calls l

@@ -12,15 +12,9 @@ use Rattle.store.specs.declared.Geometry.{Geometry}
 use Rattle.store.specs.declared.Opened.the-variants.{Sound}
 use Rattle.cache.specs.Calls.{placeOf, insertJudged}
 use Rattle.cache.specs.declared.Judged.the-variants.{Accepted}
-use Rattle.history.specs.History.{Event, inserted, touched, flushed, Every, insertions, shown, marked}
+use Rattle.history.specs.History.{Event, insertions, Every, OfInserted, shown, marked}
 use Rattle.guarantee.specs.Held.{placeFor}
 use Rattle.guarantee.specs.Past.{Past, unmade, since, pageOf}
-
--- an event that a store of this geometry may have had: no refused insertion
-abbrev pub Possible : Geometry → Event → Type 0
-Possible g (inserted a rec) = insertJudged (Sound g) a rec ≡ Accepted g
-Possible g (touched p) = Unit {0}
-Possible g flushed = Unit {0}
 
 pub record Stands (g : Geometry) (h : List Event) (s : List ℕ) : Type 0 where
   pub sound : opened s ≡ Sound g
@@ -29,7 +23,8 @@ pub record Stands (g : Geometry) (h : List Event) (s : List ℕ) : Type 0 where
   pub full : (a : ℕ) (r : List ℕ) → shown (slotOf g) pageOf h a ≡ some r → part s (placeOf g a) (g .size) ≡ placeFor g r
   pub vacant : (i : ℕ) → i < 2 ^ g .e → ((a : ℕ) → slotOf g a ≡ i → shown (slotOf g) pageOf h a ≡ none) → part s (placeAt g i) (g .size) ≡ emptyPlace (g .size)
   pub bits : (q : ℕ) → q < g .pages → pageBit s q ≡ marked (slotOf g) pageOf h (pageOf (g .base) + q)
-  pub possible : Every (Possible g) h
+  -- no refused insertion is among its events
+  pub accepted : Every (OfInserted (λ a r. insertJudged (Sound g) a r ≡ Accepted g)) h
 
 abbrev pub Follows : Past → List ℕ → Type 0
 Follows unmade s = Unit {0}

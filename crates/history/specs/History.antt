@@ -25,6 +25,12 @@ pub data Every (P : Event → Type 0) : List Event → Type 0 where
   none-left : Every P []
   and-then : {e : Event} {h : List Event} → P e → Every P h → Every P (e ∷ h)
 
+-- of an insertion, something about its address and its record
+abbrev pub OfInserted : (ℕ → List ℕ → Type 0) → Event → Type 0
+OfInserted P (inserted a r) = P a r
+OfInserted P (touched p) = Unit {0}
+OfInserted P flushed = Unit {0}
+
 module _ (slot page : ℕ → ℕ) where
   -- the record that a lookup at a shows: the newest event that concerns a decides
   unfoldable pub shown : List Event → ℕ → Option (List ℕ)
