@@ -5,6 +5,7 @@ use mathlib.Core.List.{List, [], _∷_}
 use Rattle.cache.specs.Answers.{noticeValue}
 use Rattle.cache.specs.Calls.{makeCall, lookupCall, shown, insertCall, noticeCall, flushCall}
 use Rattle.write.specs.Write.{writeValue, writeCall}
+use Rattle.write.specs.declared.WriteAnswer.{WriteAnswer}
 
 -- the calls that use a store
 pub data Use : Type 0 where
@@ -33,6 +34,9 @@ pub record Lent : Type 0 where
 abbrev pub storing : Lent → List ℕ → Lent
 storing l s = record { store = s; memory = l .memory }
 
+abbrev pub wrote : WriteAnswer × List ℕ × List ℕ → ℕ × Lent
+wrote r = (writeValue (r .0), record { store = r .1; memory = r .2 })
+
 -- the slots that a call reports, and both buffers after it
 unfoldable pub done : Use → Lent → ℕ × Lent
 done (lookup a) l = (0, l)
@@ -40,10 +44,7 @@ done (insert a rec) l = (0, storing l (insertCall (l .store) a rec .1))
 done (notice a) l = (noticeValue (noticeCall (l .store) a .0), storing l (noticeCall (l .store) a .1))
 done flush l = (0, storing l (flushCall (l .store) .1))
 done generation l = (0, l)
-done (write a n v) l = (
-  writeValue (writeCall (l .store) (l .memory) a n v .0),
-  record { store = writeCall (l .store) (l .memory) a n v .1; memory = writeCall (l .store) (l .memory) a n v .2 },
-)
+done (write a n v) l = wrote (writeCall (l .store) (l .memory) a n v)
 
 -- both after a list of calls, the newest first
 unfoldable pub run : List Call → Lent → Lent
