@@ -1,6 +1,7 @@
 // The C door: what the Rust core, or a C program, links. Each function is the call behind it on numbers and byte slices, promises what that call
 // promises, by the same definition, and asks nothing of its caller. include/unvriscol.h declares them in this order.
 ghost use mathlib.Core.Path.{_≡_};
+ghost use Rattle.answer.specs.Answer.{valuedNumber, valuedValue};
 ghost use Rattle.decode.specs.Call.{wordCall, halfCall};
 ghost use Rattle.alu.specs.Call.{aluCall};
 ghost use Rattle.form.specs.Forming.{rust};
@@ -38,7 +39,7 @@ pub extern "C" fn uv_decode_halfword(raw: u16, lent: &mut [u8]) -> u64
 // Computes an ALU kind, given by its number; the value is the result.
 #[no_mangle]
 pub extern "C" fn uv_alu(kind: u64, lhs: u64, rhs: u64) -> Answer
-    ensures { λ r. ⌜ (r .number, r .value) ≡ aluCall kind lhs rhs ⌝ }
+    ensures { λ r. ⌜ (r .number, r .value) ≡ both valuedNumber valuedValue (aluCall kind lhs rhs) ⌝ }
 {
     let answer = alu::alu_call(kind, lhs, rhs);
     let number = answer.number();
