@@ -13,7 +13,8 @@ use Rattle.op.specs.Record.{opFields}
 use Rattle.op.specs.WellFormed.{ilenKnown}
 use Rattle.op.specs.declared.Op.{Op}
 use Rattle.op.specs.declared.Decoded.the-variants.{Some}
-use Rattle.op.proofs.Proper.{Proper, proper-well}
+use Rattle.op.specs.Proper.{Proper}
+use Rattle.op.proofs.Proper.{proper-well}
 use Rattle.word.proofs.Read.{word-op}
 use Rattle.halfword.proofs.Read.{half-op}
 use Rattle.block.specs.Memory.{goodMemory, inMemory, page, restOfPage}

@@ -39,7 +39,7 @@ pub extern "C" fn uv_decode_halfword(raw: u16, lent: &mut [u8]) -> u64
 // Computes an ALU kind, given by its number; the value is the result.
 #[no_mangle]
 pub extern "C" fn uv_alu(kind: u64, lhs: u64, rhs: u64) -> Answer
-    ensures { λ r. ⌜ (r .number, r .value) ≡ aluCall kind lhs rhs ⌝ }
+    ensures { λ r. ⌜ (r .number, r .value) ≡ both valuedNumber valuedValue (aluCall kind lhs rhs) ⌝ }
 {
     let answer = alu::alu_call(kind, lhs, rhs);
     let number = answer.number();
