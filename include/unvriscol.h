@@ -57,7 +57,8 @@ uv_answer uv_lookup(const uint8_t *store, size_t store_len, uint64_t address);
 /* Insert the record of the block at an address, in the place of whatever its slot held. Refusals: 1, 6, 3, 5. */
 uint64_t uv_insert(uint8_t *store, size_t store_len, uint64_t address, const uint8_t *record, size_t record_len);
 
-/* Tell the cache of a write at an address: the blocks of its page are dropped. The value is the slots examined. Refusal: 1. */
+/* Tell the cache of a write at an address, after the write and before the next lookup: the blocks of its page are dropped. The value is the slots
+ * examined. Refusal: 1. */
 uv_answer uv_notice(uint8_t *store, size_t store_len, uint64_t address);
 
 /* Drop every block; the generation is kept. Refusal: 1. */

@@ -10,7 +10,7 @@ use lib.ListN.{getD}
 use Rattle.bits.specs.Bits.{bitsAt, signed}
 use Rattle.bits.specs.Match.{_⇒_, case}
 use Rattle.bits.proofs.Every.{both}
-use Rattle.op.specs.Kinds.{aluNumber, aluKinds, loadNumber, storeNumber, branchNumber}
+use Rattle.op.specs.Kinds.{aluKinds, aluNumber, loadKinds, loadNumber, storeKinds, storeNumber, branchKinds, branchNumber}
 use Rattle.op.specs.Record.{opFields}
 use Rattle.op.specs.declared.Decoded.{Decoded}
 use Rattle.op.specs.declared.Decoded.the-variants.{Some, None}
@@ -18,7 +18,7 @@ use Rattle.op.specs.declared.AluKind.the-variants.{Add}
 use Rattle.op.specs.declared.LoadKind.the-variants.{Lb}
 use Rattle.op.specs.declared.StoreKind.the-variants.{Sb}
 use Rattle.op.specs.declared.BranchKind.the-variants.{Beq}
-use Rattle.op.proofs.Numbers.{alu-at, loadKinds, load-at, storeKinds, store-at, branchKinds, branch-at}
+use Rattle.op.proofs.Numbers.{alu-positions, load-positions, store-positions, branch-positions}
 use Rattle.word.specs.Instruction as rust
 use Rattle.word.specs.Word as rust-word
 use Rattle.word.specs.declared.Form.{Form}
@@ -120,14 +120,14 @@ made-is LUI = refl
 made-is AUIPC = refl
 made-is JAL = refl
 made-is JALR = refl
-made-is (B k) = ap B (branch-at k Beq)
-made-is (L k) = ap L (load-at k Lb)
-made-is (S k) = ap S (store-at k Sb)
-made-is (I k) = ap I (alu-at k Add)
-made-is (I6 k) = ap I6 (alu-at k Add)
-made-is (I5 k) = ap I5 (alu-at k Add)
-made-is (I0 k) = ap I0 (alu-at k Add)
-made-is (R k) = ap R (alu-at k Add)
+made-is (B k) = ap B (branch-positions .at k Beq)
+made-is (L k) = ap L (load-positions .at k Lb)
+made-is (S k) = ap S (store-positions .at k Sb)
+made-is (I k) = ap I (alu-positions .at k Add)
+made-is (I6 k) = ap I6 (alu-positions .at k Add)
+made-is (I5 k) = ap I5 (alu-positions .at k Add)
+made-is (I0 k) = ap I0 (alu-positions .at k Add)
+made-is (R k) = ap R (alu-positions .at k Add)
 
 abbrev pub same : Format → Format → Bool
 same a b = eqb (shape a) (shape b) && eqb (kind a) (kind b)

@@ -7,12 +7,13 @@ use lib.Bits.{bitAnd, bitOr, bitXor}
 use lib.Count.{ones, leadingZeros, trailingZeros}
 use lib.Signed.{ltZ, shrZ}
 use mir.Val.{boolByte}
+use Rattle.answer.specs.declared.Refusal.the-variants.{NoKind}
+use Rattle.answer.specs.declared.Valued.{Valued}
+use Rattle.answer.specs.declared.Valued.the-variants.{Value, NoValue}
 use Rattle.bits.specs.Bits.{bitsAt, signed}
 use Rattle.op.specs.Record.{bits64}
 use Rattle.op.specs.declared.AluKind.{AluKind}
 use Rattle.op.specs.declared.AluKind.the-variants.{Add, Sub, Sll, Slt, Sltu, Xor, Srl, Sra, Or, And, Addw, Subw, Sllw, Srlw, Sraw, Mul, Mulh, Mulhsu, Mulhu, Div, Divu, Rem, Remu, Mulw, Divw, Divuw, Remw, Remuw, Andn, Orn, Xnor, Rol, Ror, Rolw, Rorw, Min, Max, Minu, Maxu, Clz, Ctz, Cpop, Clzw, Ctzw, Cpopw, SextB, SextH, ZextH, Rev8, OrcB, Sh1add, Sh2add, Sh3add, AddUw, Sh1addUw, Sh2addUw, Sh3addUw, SlliUw}
-use Rattle.alu.specs.declared.AluAnswer.{AluAnswer}
-use Rattle.alu.specs.declared.AluAnswer.the-variants.{Computed, NoKind}
 
 -- `x as u32`
 abbrev pub asU32 : ℕ → ℕ
@@ -56,62 +57,62 @@ unfoldable pub orced : ℕ → ℕ → ℕ
 orced x zero = 0
 orced x (suc n) = spread (bitsAt x (n * 8) 8) * 2 ^ (n * 8) + orced x n
 
-abbrev pub rustAlu : AluKind → ℕ → ℕ → AluAnswer
-rustAlu Add a b = Computed ((a + b) % 2 ^ 64)
-rustAlu Sub a b = Computed (minus 64 a b)
-rustAlu Sll a b = Computed (shl a (bitAnd b 0x3f))
-rustAlu Slt a b = Computed (boolByte (less a b))
-rustAlu Sltu a b = Computed (boolByte (ltb a b))
-rustAlu Xor a b = Computed (bitXor a b)
-rustAlu Srl a b = Computed (a / 2 ^ bitAnd b 0x3f)
-rustAlu Sra a b = Computed (bits64 (shrZ (signed 64 a) (2 ^ bitAnd b 0x3f)))
-rustAlu Or a b = Computed (bitOr a b)
-rustAlu And a b = Computed (bitAnd a b)
-rustAlu Addw a b = Computed (widen 32 ((asU32 a + asU32 b) % 2 ^ 32))
-rustAlu Subw a b = Computed (widen 32 (minus 32 (asU32 a) (asU32 b)))
-rustAlu Sllw a b = Computed (widen 32 ((asU32 a * 2 ^ bitAnd b 0x1f) % 2 ^ 32))
-rustAlu Srlw a b = Computed (widen 32 (asU32 a / 2 ^ bitAnd b 0x1f))
-rustAlu Sraw a b = Computed (bits64 (shrZ (signed 32 (asU32 a)) (2 ^ bitAnd b 0x1f)))
-rustAlu Mul a b = NoKind
-rustAlu Mulh a b = NoKind
-rustAlu Mulhsu a b = NoKind
-rustAlu Mulhu a b = NoKind
-rustAlu Div a b = NoKind
-rustAlu Divu a b = NoKind
-rustAlu Rem a b = NoKind
-rustAlu Remu a b = NoKind
-rustAlu Mulw a b = NoKind
-rustAlu Divw a b = NoKind
-rustAlu Divuw a b = NoKind
-rustAlu Remw a b = NoKind
-rustAlu Remuw a b = NoKind
-rustAlu Andn a b = Computed (bitAnd a (not64 b))
-rustAlu Orn a b = Computed (bitOr a (not64 b))
-rustAlu Xnor a b = Computed (bitXor a (not64 b))
-rustAlu Rol a b = Computed (rotl 64 a (bitAnd b 0x3f))
-rustAlu Ror a b = Computed (rotl 64 a (64 - bitAnd b 0x3f))
-rustAlu Rolw a b = Computed (widen 32 (rotl 32 (asU32 a) (bitAnd b 0x1f)))
-rustAlu Rorw a b = Computed (widen 32 (rotl 32 (asU32 a) (32 - bitAnd b 0x1f)))
-rustAlu Min a b = Computed (cond (less a b) a b)
-rustAlu Max a b = Computed (cond (less b a) a b)
-rustAlu Minu a b = Computed (min a b)
-rustAlu Maxu a b = Computed (max a b)
-rustAlu Clz a b = Computed (leadingZeros 64 a)
-rustAlu Ctz a b = Computed (trailingZeros 64 a)
-rustAlu Cpop a b = Computed (ones a)
-rustAlu Clzw a b = Computed (leadingZeros 32 (asU32 a))
-rustAlu Ctzw a b = Computed (trailingZeros 32 (asU32 a))
-rustAlu Cpopw a b = Computed (ones (asU32 a))
-rustAlu SextB a b = Computed (widen 8 (a % 2 ^ 8))
-rustAlu SextH a b = Computed (widen 16 (a % 2 ^ 16))
-rustAlu ZextH a b = Computed (a % 2 ^ 16)
-rustAlu Rev8 a b = Computed (swapped a 8)
-rustAlu Sh1add a b = Computed ((shl a 1 + b) % 2 ^ 64)
-rustAlu Sh2add a b = Computed ((shl a 2 + b) % 2 ^ 64)
-rustAlu Sh3add a b = Computed ((shl a 3 + b) % 2 ^ 64)
-rustAlu AddUw a b = Computed ((asU32 a + b) % 2 ^ 64)
-rustAlu Sh1addUw a b = Computed ((shl (asU32 a) 1 + b) % 2 ^ 64)
-rustAlu Sh2addUw a b = Computed ((shl (asU32 a) 2 + b) % 2 ^ 64)
-rustAlu Sh3addUw a b = Computed ((shl (asU32 a) 3 + b) % 2 ^ 64)
-rustAlu SlliUw a b = Computed (shl (asU32 a) (bitAnd b 0x3f))
-rustAlu OrcB a b = Computed (orced a 8)
+abbrev pub rustAlu : AluKind → ℕ → ℕ → Valued
+rustAlu Add a b = Value ((a + b) % 2 ^ 64)
+rustAlu Sub a b = Value (minus 64 a b)
+rustAlu Sll a b = Value (shl a (bitAnd b 0x3f))
+rustAlu Slt a b = Value (boolByte (less a b))
+rustAlu Sltu a b = Value (boolByte (ltb a b))
+rustAlu Xor a b = Value (bitXor a b)
+rustAlu Srl a b = Value (a / 2 ^ bitAnd b 0x3f)
+rustAlu Sra a b = Value (bits64 (shrZ (signed 64 a) (2 ^ bitAnd b 0x3f)))
+rustAlu Or a b = Value (bitOr a b)
+rustAlu And a b = Value (bitAnd a b)
+rustAlu Addw a b = Value (widen 32 ((asU32 a + asU32 b) % 2 ^ 32))
+rustAlu Subw a b = Value (widen 32 (minus 32 (asU32 a) (asU32 b)))
+rustAlu Sllw a b = Value (widen 32 ((asU32 a * 2 ^ bitAnd b 0x1f) % 2 ^ 32))
+rustAlu Srlw a b = Value (widen 32 (asU32 a / 2 ^ bitAnd b 0x1f))
+rustAlu Sraw a b = Value (bits64 (shrZ (signed 32 (asU32 a)) (2 ^ bitAnd b 0x1f)))
+rustAlu Mul a b = NoValue NoKind
+rustAlu Mulh a b = NoValue NoKind
+rustAlu Mulhsu a b = NoValue NoKind
+rustAlu Mulhu a b = NoValue NoKind
+rustAlu Div a b = NoValue NoKind
+rustAlu Divu a b = NoValue NoKind
+rustAlu Rem a b = NoValue NoKind
+rustAlu Remu a b = NoValue NoKind
+rustAlu Mulw a b = NoValue NoKind
+rustAlu Divw a b = NoValue NoKind
+rustAlu Divuw a b = NoValue NoKind
+rustAlu Remw a b = NoValue NoKind
+rustAlu Remuw a b = NoValue NoKind
+rustAlu Andn a b = Value (bitAnd a (not64 b))
+rustAlu Orn a b = Value (bitOr a (not64 b))
+rustAlu Xnor a b = Value (bitXor a (not64 b))
+rustAlu Rol a b = Value (rotl 64 a (bitAnd b 0x3f))
+rustAlu Ror a b = Value (rotl 64 a (64 - bitAnd b 0x3f))
+rustAlu Rolw a b = Value (widen 32 (rotl 32 (asU32 a) (bitAnd b 0x1f)))
+rustAlu Rorw a b = Value (widen 32 (rotl 32 (asU32 a) (32 - bitAnd b 0x1f)))
+rustAlu Min a b = Value (cond (less a b) a b)
+rustAlu Max a b = Value (cond (less b a) a b)
+rustAlu Minu a b = Value (min a b)
+rustAlu Maxu a b = Value (max a b)
+rustAlu Clz a b = Value (leadingZeros 64 a)
+rustAlu Ctz a b = Value (trailingZeros 64 a)
+rustAlu Cpop a b = Value (ones a)
+rustAlu Clzw a b = Value (leadingZeros 32 (asU32 a))
+rustAlu Ctzw a b = Value (trailingZeros 32 (asU32 a))
+rustAlu Cpopw a b = Value (ones (asU32 a))
+rustAlu SextB a b = Value (widen 8 (a % 2 ^ 8))
+rustAlu SextH a b = Value (widen 16 (a % 2 ^ 16))
+rustAlu ZextH a b = Value (a % 2 ^ 16)
+rustAlu Rev8 a b = Value (swapped a 8)
+rustAlu Sh1add a b = Value ((shl a 1 + b) % 2 ^ 64)
+rustAlu Sh2add a b = Value ((shl a 2 + b) % 2 ^ 64)
+rustAlu Sh3add a b = Value ((shl a 3 + b) % 2 ^ 64)
+rustAlu AddUw a b = Value ((asU32 a + b) % 2 ^ 64)
+rustAlu Sh1addUw a b = Value ((shl (asU32 a) 1 + b) % 2 ^ 64)
+rustAlu Sh2addUw a b = Value ((shl (asU32 a) 2 + b) % 2 ^ 64)
+rustAlu Sh3addUw a b = Value ((shl (asU32 a) 3 + b) % 2 ^ 64)
+rustAlu SlliUw a b = Value (shl (asU32 a) (bitAnd b 0x3f))
+rustAlu OrcB a b = Value (orced a 8)

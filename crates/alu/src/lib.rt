@@ -1,12 +1,14 @@
 // The ALU without multiply and divide: by a kind, and by a kind's number. (block.rs, `alu`)
 // The helpers stand for what Rust has as casts and methods: a cast here loses no bit, and numbers have no methods.
-use AluAnswer::Computed;
-use AluAnswer::NoKind;
-use KindAt::Known;
-use KindAt::Unknown;
+use answer::Refusal::NoKind;
+use answer::Valued;
+use answer::Valued::NoValue;
+use answer::Valued::Value;
 use bits::sign_extend;
 use op::AluKind;
+use op::KindAt;
 use op::bits_of;
+use op::kind_at;
 use std::num::wrapping_add_u32;
 use std::num::wrapping_add_u64;
 use std::num::wrapping_sub_u32;
@@ -15,35 +17,7 @@ ghost use mathlib.Core.Path.{_≡_};
 ghost use Prim.Native.Nat.{_-_, _%_, _^_, _≤_, _<_, min, max};
 ghost use Rattle.bits.specs.Bits.{signed};
 ghost use Rattle.alu.specs.Rust.{widen, less, rotl, swapped, spread, orced, rustAlu};
-ghost use Rattle.alu.specs.Call.{aluAnswerNumber, aluAnswerValue, kindAt, aluCall};
-
-// What comes of an ALU call: a value, or that the kind is not taken.
-pub enum AluAnswer {
-    Computed(u64),
-    NoKind,
-}
-
-impl AluAnswer {
-    // Document 01's number.
-    pub fn number(self) -> u64
-        ensures { λ r. ⌜ r ≡ aluAnswerNumber self ⌝ }
-    {
-        match self {
-            Self::Computed(_) => 0,
-            Self::NoKind => 7,
-        }
-    }
-
-    // The value beside the number.
-    pub fn value(self) -> u64
-        ensures { λ r. ⌜ r ≡ aluAnswerValue self ⌝ }
-    {
-        match self {
-            Self::Computed(value) => value,
-            Self::NoKind => 0,
-        }
-    }
-}
+ghost use Rattle.alu.specs.Call.{aluCall};
 
 const WORD: u64 = 0x1_0000_0000;
 
@@ -169,150 +143,77 @@ fn orc_b(x: u64) -> u64
 }
 
 // One arm for each kind, in the Rust's order.
-pub fn alu(kind: AluKind, lhs: u64, rhs: u64) -> AluAnswer
+pub fn alu(kind: AluKind, lhs: u64, rhs: u64) -> Valued
     ensures { λ r. ⌜ r ≡ rustAlu kind lhs rhs ⌝ }
 {
     match kind {
-        AluKind::Add => Computed(wrapping_add_u64(lhs, rhs)),
-        AluKind::Sub => Computed(wrapping_sub_u64(lhs, rhs)),
-        AluKind::Sll => Computed(lhs << (rhs & 0x3f)),
-        AluKind::Slt => Computed(less(lhs, rhs) as u64),
-        AluKind::Sltu => Computed((lhs < rhs) as u64),
-        AluKind::Xor => Computed(lhs ^ rhs),
-        AluKind::Srl => Computed(lhs >> (rhs & 0x3f)),
-        AluKind::Sra => Computed(bits_of(as_i64(lhs) >> (rhs & 0x3f))),
-        AluKind::Or => Computed(lhs | rhs),
-        AluKind::And => Computed(lhs & rhs),
-        AluKind::Addw => Computed(widen_word(wrapping_add_u32(as_u32(lhs), as_u32(rhs)))),
-        AluKind::Subw => Computed(widen_word(wrapping_sub_u32(as_u32(lhs), as_u32(rhs)))),
-        AluKind::Sllw => Computed(widen_word(as_u32(lhs) << (rhs & 0x1f))),
-        AluKind::Srlw => Computed(widen_word(as_u32(lhs) >> (rhs & 0x1f))),
-        AluKind::Sraw => Computed(bits_of(sign_extend(lhs % WORD, 32) >> (rhs & 0x1f))),
-        AluKind::Mul => NoKind,
-        AluKind::Mulh => NoKind,
-        AluKind::Mulhsu => NoKind,
-        AluKind::Mulhu => NoKind,
-        AluKind::Div => NoKind,
-        AluKind::Divu => NoKind,
-        AluKind::Rem => NoKind,
-        AluKind::Remu => NoKind,
-        AluKind::Mulw => NoKind,
-        AluKind::Divw => NoKind,
-        AluKind::Divuw => NoKind,
-        AluKind::Remw => NoKind,
-        AluKind::Remuw => NoKind,
-        AluKind::Andn => Computed(lhs & !rhs),
-        AluKind::Orn => Computed(lhs | !rhs),
-        AluKind::Xnor => Computed(lhs ^ !rhs),
-        AluKind::Rol => Computed(rotate_left(lhs, rhs & 0x3f)),
-        AluKind::Ror => Computed(rotate_right(lhs, rhs & 0x3f)),
-        AluKind::Rolw => Computed(widen_word(rotate_left_word(as_u32(lhs), rhs & 0x1f))),
-        AluKind::Rorw => Computed(widen_word(rotate_right_word(as_u32(lhs), rhs & 0x1f))),
-        AluKind::Min => Computed(if less(lhs, rhs) { lhs } else { rhs }),
-        AluKind::Max => Computed(if less(rhs, lhs) { lhs } else { rhs }),
-        AluKind::Minu => Computed(min(lhs, rhs)),
-        AluKind::Maxu => Computed(max(lhs, rhs)),
-        AluKind::Clz => Computed(u64::leading_zeros(lhs) as u64),
-        AluKind::Ctz => Computed(u64::trailing_zeros(lhs) as u64),
-        AluKind::Cpop => Computed(u64::count_ones(lhs) as u64),
-        AluKind::Clzw => Computed(u32::leading_zeros(as_u32(lhs)) as u64),
-        AluKind::Ctzw => Computed(u32::trailing_zeros(as_u32(lhs)) as u64),
-        AluKind::Cpopw => Computed(u32::count_ones(as_u32(lhs)) as u64),
-        AluKind::SextB => Computed(widen(lhs % 0x100, 8)),
-        AluKind::SextH => Computed(widen(lhs % 0x1_0000, 16)),
-        AluKind::ZextH => Computed(lhs % 0x1_0000),
-        AluKind::Rev8 => Computed(swap_bytes(lhs)),
-        AluKind::Sh1add => Computed(wrapping_add_u64(lhs << 1, rhs)),
-        AluKind::Sh2add => Computed(wrapping_add_u64(lhs << 2, rhs)),
-        AluKind::Sh3add => Computed(wrapping_add_u64(lhs << 3, rhs)),
-        AluKind::AddUw => Computed(wrapping_add_u64(lhs % WORD, rhs)),
-        AluKind::Sh1addUw => Computed(wrapping_add_u64((lhs % WORD) << 1, rhs)),
-        AluKind::Sh2addUw => Computed(wrapping_add_u64((lhs % WORD) << 2, rhs)),
-        AluKind::Sh3addUw => Computed(wrapping_add_u64((lhs % WORD) << 3, rhs)),
-        AluKind::SlliUw => Computed((lhs % WORD) << (rhs & 0x3f)),
-        AluKind::OrcB => Computed(orc_b(lhs)),
-    }
-}
-
-// What a number names.
-enum KindAt {
-    Known(AluKind),
-    Unknown,
-}
-
-// The kind at a position of the enum, from 0.
-fn kind_at(n: u64) -> KindAt
-    ensures { λ r. ⌜ r ≡ kindAt n ⌝ }
-{
-    match n {
-        0 => Known(AluKind::Add),
-        1 => Known(AluKind::Sub),
-        2 => Known(AluKind::Sll),
-        3 => Known(AluKind::Slt),
-        4 => Known(AluKind::Sltu),
-        5 => Known(AluKind::Xor),
-        6 => Known(AluKind::Srl),
-        7 => Known(AluKind::Sra),
-        8 => Known(AluKind::Or),
-        9 => Known(AluKind::And),
-        10 => Known(AluKind::Addw),
-        11 => Known(AluKind::Subw),
-        12 => Known(AluKind::Sllw),
-        13 => Known(AluKind::Srlw),
-        14 => Known(AluKind::Sraw),
-        15 => Known(AluKind::Mul),
-        16 => Known(AluKind::Mulh),
-        17 => Known(AluKind::Mulhsu),
-        18 => Known(AluKind::Mulhu),
-        19 => Known(AluKind::Div),
-        20 => Known(AluKind::Divu),
-        21 => Known(AluKind::Rem),
-        22 => Known(AluKind::Remu),
-        23 => Known(AluKind::Mulw),
-        24 => Known(AluKind::Divw),
-        25 => Known(AluKind::Divuw),
-        26 => Known(AluKind::Remw),
-        27 => Known(AluKind::Remuw),
-        28 => Known(AluKind::Andn),
-        29 => Known(AluKind::Orn),
-        30 => Known(AluKind::Xnor),
-        31 => Known(AluKind::Rol),
-        32 => Known(AluKind::Ror),
-        33 => Known(AluKind::Rolw),
-        34 => Known(AluKind::Rorw),
-        35 => Known(AluKind::Min),
-        36 => Known(AluKind::Max),
-        37 => Known(AluKind::Minu),
-        38 => Known(AluKind::Maxu),
-        39 => Known(AluKind::Clz),
-        40 => Known(AluKind::Ctz),
-        41 => Known(AluKind::Cpop),
-        42 => Known(AluKind::Clzw),
-        43 => Known(AluKind::Ctzw),
-        44 => Known(AluKind::Cpopw),
-        45 => Known(AluKind::SextB),
-        46 => Known(AluKind::SextH),
-        47 => Known(AluKind::ZextH),
-        48 => Known(AluKind::Rev8),
-        49 => Known(AluKind::OrcB),
-        50 => Known(AluKind::Sh1add),
-        51 => Known(AluKind::Sh2add),
-        52 => Known(AluKind::Sh3add),
-        53 => Known(AluKind::AddUw),
-        54 => Known(AluKind::Sh1addUw),
-        55 => Known(AluKind::Sh2addUw),
-        56 => Known(AluKind::Sh3addUw),
-        57 => Known(AluKind::SlliUw),
-        _ => Unknown,
+        AluKind::Add => Value(wrapping_add_u64(lhs, rhs)),
+        AluKind::Sub => Value(wrapping_sub_u64(lhs, rhs)),
+        AluKind::Sll => Value(lhs << (rhs & 0x3f)),
+        AluKind::Slt => Value(less(lhs, rhs) as u64),
+        AluKind::Sltu => Value((lhs < rhs) as u64),
+        AluKind::Xor => Value(lhs ^ rhs),
+        AluKind::Srl => Value(lhs >> (rhs & 0x3f)),
+        AluKind::Sra => Value(bits_of(as_i64(lhs) >> (rhs & 0x3f))),
+        AluKind::Or => Value(lhs | rhs),
+        AluKind::And => Value(lhs & rhs),
+        AluKind::Addw => Value(widen_word(wrapping_add_u32(as_u32(lhs), as_u32(rhs)))),
+        AluKind::Subw => Value(widen_word(wrapping_sub_u32(as_u32(lhs), as_u32(rhs)))),
+        AluKind::Sllw => Value(widen_word(as_u32(lhs) << (rhs & 0x1f))),
+        AluKind::Srlw => Value(widen_word(as_u32(lhs) >> (rhs & 0x1f))),
+        AluKind::Sraw => Value(bits_of(sign_extend(lhs % WORD, 32) >> (rhs & 0x1f))),
+        AluKind::Mul => NoValue(NoKind),
+        AluKind::Mulh => NoValue(NoKind),
+        AluKind::Mulhsu => NoValue(NoKind),
+        AluKind::Mulhu => NoValue(NoKind),
+        AluKind::Div => NoValue(NoKind),
+        AluKind::Divu => NoValue(NoKind),
+        AluKind::Rem => NoValue(NoKind),
+        AluKind::Remu => NoValue(NoKind),
+        AluKind::Mulw => NoValue(NoKind),
+        AluKind::Divw => NoValue(NoKind),
+        AluKind::Divuw => NoValue(NoKind),
+        AluKind::Remw => NoValue(NoKind),
+        AluKind::Remuw => NoValue(NoKind),
+        AluKind::Andn => Value(lhs & !rhs),
+        AluKind::Orn => Value(lhs | !rhs),
+        AluKind::Xnor => Value(lhs ^ !rhs),
+        AluKind::Rol => Value(rotate_left(lhs, rhs & 0x3f)),
+        AluKind::Ror => Value(rotate_right(lhs, rhs & 0x3f)),
+        AluKind::Rolw => Value(widen_word(rotate_left_word(as_u32(lhs), rhs & 0x1f))),
+        AluKind::Rorw => Value(widen_word(rotate_right_word(as_u32(lhs), rhs & 0x1f))),
+        AluKind::Min => Value(if less(lhs, rhs) { lhs } else { rhs }),
+        AluKind::Max => Value(if less(rhs, lhs) { lhs } else { rhs }),
+        AluKind::Minu => Value(min(lhs, rhs)),
+        AluKind::Maxu => Value(max(lhs, rhs)),
+        AluKind::Clz => Value(u64::leading_zeros(lhs) as u64),
+        AluKind::Ctz => Value(u64::trailing_zeros(lhs) as u64),
+        AluKind::Cpop => Value(u64::count_ones(lhs) as u64),
+        AluKind::Clzw => Value(u32::leading_zeros(as_u32(lhs)) as u64),
+        AluKind::Ctzw => Value(u32::trailing_zeros(as_u32(lhs)) as u64),
+        AluKind::Cpopw => Value(u32::count_ones(as_u32(lhs)) as u64),
+        AluKind::SextB => Value(widen(lhs % 0x100, 8)),
+        AluKind::SextH => Value(widen(lhs % 0x1_0000, 16)),
+        AluKind::ZextH => Value(lhs % 0x1_0000),
+        AluKind::Rev8 => Value(swap_bytes(lhs)),
+        AluKind::Sh1add => Value(wrapping_add_u64(lhs << 1, rhs)),
+        AluKind::Sh2add => Value(wrapping_add_u64(lhs << 2, rhs)),
+        AluKind::Sh3add => Value(wrapping_add_u64(lhs << 3, rhs)),
+        AluKind::AddUw => Value(wrapping_add_u64(lhs % WORD, rhs)),
+        AluKind::Sh1addUw => Value(wrapping_add_u64((lhs % WORD) << 1, rhs)),
+        AluKind::Sh2addUw => Value(wrapping_add_u64((lhs % WORD) << 2, rhs)),
+        AluKind::Sh3addUw => Value(wrapping_add_u64((lhs % WORD) << 3, rhs)),
+        AluKind::SlliUw => Value((lhs % WORD) << (rhs & 0x3f)),
+        AluKind::OrcB => Value(orc_b(lhs)),
     }
 }
 
 // The public call: any number, also one that is no kind's.
-pub fn alu_call(kind: u64, lhs: u64, rhs: u64) -> AluAnswer
-    ensures { λ r. ⌜ (aluAnswerNumber r, aluAnswerValue r) ≡ aluCall kind lhs rhs ⌝ }
+pub fn alu_call(kind: u64, lhs: u64, rhs: u64) -> Valued
+    ensures { λ r. ⌜ r ≡ aluCall kind lhs rhs ⌝ }
 {
     let KindAt::Known(known) = kind_at(kind) else {
-        return NoKind;
+        return NoValue(NoKind);
     };
     alu(known, lhs, rhs)
 }

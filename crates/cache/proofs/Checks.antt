@@ -1,6 +1,6 @@
 -- What an accepted call's checks have shown.
 -- Assumes nothing.
-use mathlib.Core.Path.{_≡_, refl, sym, ap, subst}
+use mathlib.Core.Path.{_≡_, refl, sym, subst}
 use mathlib.Core.Bool.{Bool, true, false, cond, _&&_}
 use mathlib.Core.List.{List}
 use Prim.Native.Nat.{ℕ, _+_, _≤_}
@@ -17,9 +17,9 @@ use Rattle.store.specs.declared.Geometry.{Geometry}
 use Rattle.store.specs.declared.Opened.{Opened}
 use Rattle.store.specs.declared.Opened.the-variants.{Sound, NotAStore}
 use Rattle.store.proofs.Known.{bounds-are, opened-says, place-fits, slot-lt}
-use Rattle.cache.specs.Calls.{makeJudged, mayHold, placeOf, found, lookupCall, insertJudged}
-use Rattle.cache.specs.declared.Refusal.{Refusal}
-use Rattle.cache.specs.declared.Refusal.the-variants.{NoStore, BadGeometry, OutsideMemory, IllFormed, WrongRecordBuffer, NothingFound}
+use Rattle.cache.specs.Calls.{makeJudged, placeOf, found, lookupCall, insertJudged}
+use Rattle.answer.specs.declared.Refusal.{Refusal}
+use Rattle.answer.specs.declared.Refusal.the-variants.{NoStore, BadGeometry, OutsideMemory, IllFormed, WrongBuffer, NothingFound}
 use Rattle.cache.specs.declared.LookupAnswer.the-variants.{Hit, LookupRefused}
 use Rattle.cache.specs.declared.Judged.the-variants.{Accepted, Rejected}
 
@@ -41,40 +41,32 @@ module _ (e base pages : ℕ) (s : List ℕ) (g : Geometry) where
 pub opened-fits : (s : List ℕ) (g : Geometry) → opened s ≡ Sound g → Fitting g s
 opened-fits s g h = opened-says s g h .fitting
 
--- the places of version 1
-pub opened-size : (s : List ℕ) (g : Geometry) → opened s ≡ Sound g → 1040 ≡ g .size
-opened-size s g h = ap (λ (z : Geometry). z .size) (opened-says s g h .is)
-
 -- the place of an address's slot lies within the store
 pub slot-fits : (g : Geometry) (s : List ℕ) (a : ℕ) → Fitting g s → placeOf g a + g .size ≤ length s
 slot-fits g s a f = place-fits g s (slotOf g a) f (slot-lt g a)
-
-pub may-holds : (g : Geometry) (a : ℕ) → mayHold g a ≡ true → holds g a ≡ true
-unfolding holds
-may-holds g a h = h
 
 -- an insertion that is accepted
 pub record Taken (s : List ℕ) (a : ℕ) (rec : List ℕ) (g : Geometry) : Type 0 where
   pub sound : opened s ≡ Sound g
   pub whole : length rec ≡ 1040
-  pub inner : mayHold g a ≡ true
+  pub inner : holds g a ≡ true
   pub formed : wellFormed rec a ≡ true
 
 module _ (s : List ℕ) (a : ℕ) (rec : List ℕ) (g : Geometry) where
   pub insert-taken : insertJudged (opened s) a rec ≡ Accepted g → Taken s a rec g
   insert-taken h = go (opened s) refl h
     where
-      tests : (k : Geometry) → opened s ≡ Sound k → (x y z : Bool) → eqb (length rec) 1040 ≡ x → mayHold k a ≡ y → wellFormed rec a ≡ z → cond x (cond y (cond z (Accepted k) (Rejected IllFormed)) (Rejected OutsideMemory)) (Rejected WrongRecordBuffer) ≡ Accepted g → Taken s a rec g
+      tests : (k : Geometry) → opened s ≡ Sound k → (x y z : Bool) → eqb (length rec) 1040 ≡ x → holds k a ≡ y → wellFormed rec a ≡ z → cond x (cond y (cond z (Accepted k) (Rejected IllFormed)) (Rejected OutsideMemory)) (Rejected WrongBuffer) ≡ Accepted g → Taken s a rec g
       tests k e true true true ex ey ez q =
           let w : k ≡ g = cc in
-          subst (λ (z : Geometry). opened s ≡ Sound z → mayHold z a ≡ true → Taken s a rec g) (sym w)
+          subst (λ (z : Geometry). opened s ≡ Sound z → holds z a ≡ true → Taken s a rec g) (sym w)
           (λ p r. record { sound = p; whole = eqb-true _ _ ex; inner = r; formed = ez }) e ey
       tests k e true true false ex ey ez q = absurd (rejected q)
       tests k e true false z ex ey ez q = absurd (rejected q)
       tests k e false y z ex ey ez q = absurd (rejected q)
 
       go : (o : Opened) → opened s ≡ o → insertJudged o a rec ≡ Accepted g → Taken s a rec g
-      go (Sound k) e q = tests k e (eqb (length rec) 1040) (mayHold k a) (wellFormed rec a) refl refl refl q
+      go (Sound k) e q = tests k e (eqb (length rec) 1040) (holds k a) (wellFormed rec a) refl refl refl q
       go NotAStore e q = absurd (rejected q)
 
 -- a hit lies within the store
@@ -90,7 +82,7 @@ module _ (s : List ℕ) (a at n : ℕ) where
       tests g e false q = absurd (let z : _≡_ {A = ℕ} 0 1 = cc in omega arith)
 
       go : (o : Opened) → opened s ≡ o → found o s a ≡ Hit at n → at + n ≤ length s
-      go (Sound g) e q = tests g e (mayHold g a && eqb (doublewordAt s (placeOf g a)) a) q
+      go (Sound g) e q = tests g e (holds g a && eqb (doublewordAt s (placeOf g a)) a) q
       go NotAStore e q = absurd (let z : _≡_ {A = ℕ} 0 1 = cc in omega arith)
 
 -- a header that was written is what a new store keeps

@@ -8,7 +8,7 @@ use native.Mathlib.Omega.{arith}
 use lib.Dec.{eqb}
 use lib.ListN.{length}
 use Rattle.store.specs.Layout.{opened, Fitting, holds, pageOf, slotOf, generationOf, bumped}
-use Rattle.store.specs.Places.{pageBit, withBit, emptied}
+use Rattle.store.specs.Places.{pageBit, withBit, placeFor, emptied}
 use Rattle.store.specs.declared.Geometry.{Geometry}
 use Rattle.store.proofs.Known.{page-lt, slot-lt}
 use Rattle.store.proofs.Places.{length-emptied}
@@ -54,8 +54,8 @@ module _ (g : Geometry) (s : List ℕ) (f : Fitting g s) (a : ℕ) (h : holds g 
   unfolding evicted cleared here
   place-evicted i b = place-each g cleared cleared-fits (emptied here) (keeps g s f here) i b ∙ ap (emptied here) (place-with g s f (pageOf g a) false in-memory i)
 
-  -- the page's bit is on, the generation one up, and the slot's place is the record
-  module _ (rec : List ℕ) (l : length rec ≡ g .size) where
+  -- the page's bit is on, the generation one up, and the slot's place holds the record
+  module _ (rec : List ℕ) (l : length (placeFor g rec) ≡ g .size) where
     marked : List ℕ
     marked = withBit s (pageOf g a) true
 
@@ -68,26 +68,26 @@ module _ (g : Geometry) (s : List ℕ) (f : Fitting g s) (a : ℕ) (h : holds g 
 
     pub fitting-inserted : Fitting g (insertedIn g s a rec)
     unfolding insertedIn marked
-    fitting-inserted = record { bounds = f .bounds; size = length-put g (bumped marked) moved-fits (slotOf g a) rec (slot-lt g a) l ∙ moved-fits .size }
+    fitting-inserted = record { bounds = f .bounds; size = length-put g (bumped marked) moved-fits (slotOf g a) (placeFor g rec) (slot-lt g a) l ∙ moved-fits .size }
 
     pub opened-inserted : opened (insertedIn g s a rec) ≡ opened s
     unfolding insertedIn marked
-    opened-inserted = opened-put g (bumped marked) moved-fits (slotOf g a) rec (slot-lt g a) l ∙ opened-bumped g marked marked-fits ∙ opened-with g s f (pageOf g a) true in-memory
+    opened-inserted = opened-put g (bumped marked) moved-fits (slotOf g a) (placeFor g rec) (slot-lt g a) l ∙ opened-bumped g marked marked-fits ∙ opened-with g s f (pageOf g a) true in-memory
 
     pub generation-inserted : generationOf (insertedIn g s a rec) ≡ (generationOf s + 1) % 2 ^ 64
     unfolding insertedIn marked
     generation-inserted =
-        generation-put g (bumped marked) moved-fits (slotOf g a) rec (slot-lt g a) l
+        generation-put g (bumped marked) moved-fits (slotOf g a) (placeFor g rec) (slot-lt g a) l
         ∙ generation-bumped g marked marked-fits
         ∙ ap (λ (n : ℕ). (n + 1) % 2 ^ 64) (generation-with g s f (pageOf g a) true in-memory)
 
     pub bits-inserted : (q : ℕ) → q < g .pages → pageBit (insertedIn g s a rec) q ≡ cond (eqb (pageOf g a) q) true (pageBit s q)
     unfolding insertedIn marked
     bits-inserted q b =
-        bits-put g (bumped marked) moved-fits (slotOf g a) rec (slot-lt g a) l q b ∙ bits-bumped g marked marked-fits q ∙ bits-with g s f (pageOf g a) true in-memory q
+        bits-put g (bumped marked) moved-fits (slotOf g a) (placeFor g rec) (slot-lt g a) l q b ∙ bits-bumped g marked marked-fits q ∙ bits-with g s f (pageOf g a) true in-memory q
 
-    pub place-inserted : (i : ℕ) → placeIn g (insertedIn g s a rec) i ≡ cond (eqb (slotOf g a) i) rec (placeIn g s i)
+    pub place-inserted : (i : ℕ) → placeIn g (insertedIn g s a rec) i ≡ cond (eqb (slotOf g a) i) (placeFor g rec) (placeIn g s i)
     unfolding insertedIn marked
     place-inserted i =
-        place-put g (bumped marked) moved-fits (slotOf g a) rec (slot-lt g a) l i
-        ∙ ap (cond (eqb (slotOf g a) i) rec) (place-bumped g marked marked-fits i ∙ place-with g s f (pageOf g a) true in-memory i)
+        place-put g (bumped marked) moved-fits (slotOf g a) (placeFor g rec) (slot-lt g a) l i
+        ∙ ap (cond (eqb (slotOf g a) i) (placeFor g rec)) (place-bumped g marked marked-fits i ∙ place-with g s f (pageOf g a) true in-memory i)

@@ -2,26 +2,19 @@
 ghost use mathlib.Core.Path.{_≡_};
 ghost use mathlib.Core.Bool.{true};
 ghost use mathlib.Core.List.{_++_};
+ghost use Prim.Native.Nat.{_+_, _<_, _^_};
 ghost use lib.ListN.{length};
 ghost use Rattle.store.specs.Layout.{header, opened, Bounded, Fitting, holds};
-ghost use Rattle.store.specs.Places.{blank};
-ghost use Rattle.cache.specs.Answers.{refusalNumber, makeNumber, lookupNumber, lookupValue, insertNumber, noticeNumber, noticeValue, flushNumber, generationNumber, generationValue};
-ghost use Rattle.cache.specs.Calls.{makeJudged, makeCall, mayHold, lookupCall, shown, insertJudged, insertedIn, insertCall, watched, evicted, noticedIn, noticeCall, flushCall, generationCall};
+ghost use Rattle.store.specs.Places.{placeFor, blank};
+ghost use Rattle.cache.specs.Answers.{lookupNumber, lookupValue, reportNumber, reportValue};
+ghost use Rattle.cache.specs.Calls.{makeJudged, makeCall, lookupCall, shown, insertJudged, insertedIn, insertCall, summed, watched, evicted, noticedIn, noticeCall, flushCall, generationCall};
+use answer::Answer;
+use answer::Refusal;
+use answer::Valued;
 use block::BlockRecord;
 use block::PAGE;
 use store::Geometry;
 use store::Opened;
-
-// Why a call is refused. No refusal changes a lent byte.
-pub enum Refusal {
-    NoStore,
-    BadGeometry,
-    OutsideMemory,
-    IllFormed,
-    WrongRecordBuffer,
-    WrongWriteSize,
-    NothingFound,
-}
 
 // What the checks of a call come to. A call decides first and writes then.
 pub enum Judged {
@@ -34,62 +27,15 @@ pub struct Report {
     pub examined: u64,
 }
 
-pub enum MakeAnswer {
-    Made,
-    MakeRefused(Refusal),
-}
-
 pub enum LookupAnswer {
     Hit { at: usize, size: usize },
     LookupRefused(Refusal),
 }
 
-pub enum InsertAnswer {
-    Inserted,
-    InsertRefused(Refusal),
-}
-
-pub enum NoticeAnswer {
-    Noticed(Report),
-    NoticeRefused(Refusal),
-}
-
-pub enum FlushAnswer {
-    Flushed,
-    FlushRefused(Refusal),
-}
-
-pub enum GenerationAnswer {
-    GenerationIs(u64),
-    GenerationRefused(Refusal),
-}
-
-impl Refusal {
-    // Document 01's number.
-    pub fn number(self) -> u64
-        ensures { λ r. ⌜ r ≡ refusalNumber self ⌝ }
-    {
-        match self {
-            Self::NoStore => 1,
-            Self::BadGeometry => 2,
-            Self::OutsideMemory => 3,
-            Self::IllFormed => 5,
-            Self::WrongRecordBuffer => 6,
-            Self::WrongWriteSize => 8,
-            Self::NothingFound => 9,
-        }
-    }
-}
-
-impl MakeAnswer {
-    pub fn number(self) -> u64
-        ensures { λ r. ⌜ r ≡ makeNumber self ⌝ }
-    {
-        match self {
-            Self::Made => 0,
-            Self::MakeRefused(why) => why.number(),
-        }
-    }
+// What a notice answers, and a guest write.
+pub enum ReportAnswer {
+    Reported(Report),
+    NotReported(Refusal),
 }
 
 impl LookupAnswer {
@@ -113,65 +59,23 @@ impl LookupAnswer {
     }
 }
 
-impl InsertAnswer {
+impl ReportAnswer {
     pub fn number(self) -> u64
-        ensures { λ r. ⌜ r ≡ insertNumber self ⌝ }
+        ensures { λ r. ⌜ r ≡ reportNumber self ⌝ }
     {
         match self {
-            Self::Inserted => 0,
-            Self::InsertRefused(why) => why.number(),
-        }
-    }
-}
-
-impl NoticeAnswer {
-    pub fn number(self) -> u64
-        ensures { λ r. ⌜ r ≡ noticeNumber self ⌝ }
-    {
-        match self {
-            Self::Noticed(_) => 0,
-            Self::NoticeRefused(why) => why.number(),
+            Self::Reported(_) => 0,
+            Self::NotReported(why) => why.number(),
         }
     }
 
     // The slots examined.
     pub fn value(self) -> u64
-        ensures { λ r. ⌜ r ≡ noticeValue self ⌝ }
+        ensures { λ r. ⌜ r ≡ reportValue self ⌝ }
     {
         match self {
-            Self::Noticed(report) => report.examined,
-            Self::NoticeRefused(_) => 0,
-        }
-    }
-}
-
-impl FlushAnswer {
-    pub fn number(self) -> u64
-        ensures { λ r. ⌜ r ≡ flushNumber self ⌝ }
-    {
-        match self {
-            Self::Flushed => 0,
-            Self::FlushRefused(why) => why.number(),
-        }
-    }
-}
-
-impl GenerationAnswer {
-    pub fn number(self) -> u64
-        ensures { λ r. ⌜ r ≡ generationNumber self ⌝ }
-    {
-        match self {
-            Self::GenerationIs(_) => 0,
-            Self::GenerationRefused(why) => why.number(),
-        }
-    }
-
-    pub fn value(self) -> u64
-        ensures { λ r. ⌜ r ≡ generationValue self ⌝ }
-    {
-        match self {
-            Self::GenerationIs(n) => n,
-            Self::GenerationRefused(_) => 0,
+            Self::Reported(report) => report.examined,
+            Self::NotReported(_) => 0,
         }
     }
 }
@@ -200,23 +104,16 @@ fn make_new(store: &mut [u8], g: Geometry)
 }
 
 // A new store over the lent bytes, whatever they were.
-pub fn make(store: &mut [u8], e: u64, base: u64, pages: u64) -> MakeAnswer
+pub fn make(store: &mut [u8], e: u64, base: u64, pages: u64) -> Answer
     ensures { λ r. ⌜ (r, now (store .exit)) ≡ makeCall e base pages (now (store .entry)) ⌝ }
 {
     match judge_make(e, base, pages, store.len()) {
         Judged::Accepted(g) => {
             make_new(store, g);
-            MakeAnswer::Made
+            Answer::Done
         }
-        Judged::Rejected(why) => MakeAnswer::MakeRefused(why),
+        Judged::Rejected(why) => Answer::Refused(why),
     }
-}
-
-fn may_hold(g: Geometry, address: u64) -> bool
-    requires { ⌜ Bounded g ⌝ }
-    ensures { λ r. ⌜ r ≡ mayHold g address ⌝ }
-{
-    block::in_memory(PAGE * g.pages, g.base, address)
 }
 
 // Where the block at the address is, if the cache has it.
@@ -226,7 +123,7 @@ pub fn find(store: &[u8], address: u64) -> LookupAnswer
     let Opened::Sound(g) = store::open(store) else {
         return LookupAnswer::LookupRefused(Refusal::NoStore);
     };
-    if may_hold(g, address) {
+    if g.holds(address) {
         let at = g.place(address);
         if bits::doubleword_at(store, at) == address {
             LookupAnswer::Hit { at, size: g.size }
@@ -249,25 +146,25 @@ pub fn lookup(store: &[u8], address: u64) -> &[u8]
 }
 
 // All places empty, no bit set.
-pub fn flush(store: &mut [u8]) -> FlushAnswer
+pub fn flush(store: &mut [u8]) -> Answer
     ensures { λ r. ⌜ (r, now (store .exit)) ≡ flushCall (now (store .entry)) ⌝ }
 {
     match store::open(store) {
         Opened::Sound(g) => {
             store::wipe(store, g);
-            FlushAnswer::Flushed
+            Answer::Done
         }
-        Opened::NotAStore => FlushAnswer::FlushRefused(Refusal::NoStore),
+        Opened::NotAStore => Answer::Refused(Refusal::NoStore),
     }
 }
 
 // How many insertions there were, wrapping.
-pub fn generation(store: &[u8]) -> GenerationAnswer
+pub fn generation(store: &[u8]) -> Valued
     ensures { λ r. ⌜ r ≡ generationCall (now (store .entry)) ⌝ }
 {
     match store::open(store) {
-        Opened::Sound(_) => GenerationAnswer::GenerationIs(bits::doubleword_at(store, 24)),
-        Opened::NotAStore => GenerationAnswer::GenerationRefused(Refusal::NoStore),
+        Opened::Sound(_) => Valued::Value(bits::doubleword_at(store, 24)),
+        Opened::NotAStore => Valued::NoValue(Refusal::NoStore),
     }
 }
 
@@ -305,13 +202,23 @@ pub fn notice_in(store: &mut [u8], g: Geometry, address: u64) -> Report
     }
 }
 
-// A write at the address is to come or was done.
-pub fn notice(store: &mut [u8], address: u64) -> NoticeAnswer
+// What two notices did.
+pub fn sum(first: Report, second: Report) -> Report
+    requires { ⌜ first .examined + second .examined < 2 ^ 64 ⌝ }
+    ensures { λ r. ⌜ r ≡ summed first second ⌝ }
+{
+    Report {
+        examined: first.examined + second.examined,
+    }
+}
+
+// A write at the address was done. The notice comes after it and before the next lookup: a block inserted between notice and write would stay.
+pub fn notice(store: &mut [u8], address: u64) -> ReportAnswer
     ensures { λ r. ⌜ (r, now (store .exit)) ≡ noticeCall (now (store .entry)) address ⌝ }
 {
     match store::open(store) {
-        Opened::Sound(g) => NoticeAnswer::Noticed(notice_in(store, g, address)),
-        Opened::NotAStore => NoticeAnswer::NoticeRefused(Refusal::NoStore),
+        Opened::Sound(g) => ReportAnswer::Reported(notice_in(store, g, address)),
+        Opened::NotAStore => ReportAnswer::NotReported(Refusal::NoStore),
     }
 }
 
@@ -322,9 +229,9 @@ fn judge_insert(store: &[u8], address: u64, record: &[u8]) -> Judged
         return Judged::Rejected(Refusal::NoStore);
     };
     if record.len() != BlockRecord::LEN {
-        return Judged::Rejected(Refusal::WrongRecordBuffer);
+        return Judged::Rejected(Refusal::WrongBuffer);
     }
-    if may_hold(g, address) {
+    if g.holds(address) {
         if block::well_formed(record, address) {
             Judged::Accepted(g)
         } else {
@@ -344,7 +251,7 @@ fn write_record(place: &mut [u8], record: &[u8])
 }
 
 fn insert_in(store: &mut [u8], g: Geometry, address: u64, record: &[u8])
-    requires { ⌜ Fitting g (now store) × ((mayHold g address ≡ true) × (length (now «record») ≡ g .size)) ⌝ }
+    requires { ⌜ Fitting g (now store) × ((holds g address ≡ true) × (length (placeFor g (now «record»)) ≡ g .size)) ⌝ }
     ensures { λ _. ⌜ now (store .exit) ≡ insertedIn g (now (store .entry)) address (now («record» .entry)) ⌝ }
 {
     let at = g.place(address);
@@ -355,14 +262,14 @@ fn insert_in(store: &mut [u8], g: Geometry, address: u64, record: &[u8])
 }
 
 // The record into the place of its slot.
-pub fn insert(store: &mut [u8], address: u64, record: &[u8]) -> InsertAnswer
+pub fn insert(store: &mut [u8], address: u64, record: &[u8]) -> Answer
     ensures { λ r. ⌜ (r, now (store .exit)) ≡ insertCall (now (store .entry)) address (now («record» .entry)) ⌝ }
 {
     match judge_insert(store, address, record) {
         Judged::Accepted(g) => {
             insert_in(store, g, address, record);
-            InsertAnswer::Inserted
+            Answer::Done
         }
-        Judged::Rejected(why) => InsertAnswer::InsertRefused(why),
+        Judged::Rejected(why) => Answer::Refused(why),
     }
 }

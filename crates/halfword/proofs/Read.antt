@@ -15,7 +15,7 @@ use Rattle.op.specs.declared.Op.{Op}
 use Rattle.op.specs.declared.Op.the-variants.{Fallback}
 use Rattle.op.specs.declared.Decoded.the-variants.{Some, None}
 use Rattle.op.proofs.Fallback.{Other, no-fallback, none, some, other-op}
-use Rattle.op.proofs.Proper.{Proper}
+use Rattle.op.specs.Proper.{Proper}
 use Rattle.halfword.specs.Instruction.{quadrant, funct3, rd, rs2}
 use Rattle.halfword.specs.Halfword.{nzuimmAddi4spn, halfRows, halfAt, rustHalf, miscRows, primeRows, jrMv, jalrAdd}
 

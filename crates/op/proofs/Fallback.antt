@@ -5,7 +5,7 @@ use mathlib.Core.Bool.{false, false≢true}
 use Prim.Native.Nat.{ℕ}
 use lib.Dec.{eqb}
 use Rattle.op.specs.Record.{opFields}
-use Rattle.op.proofs.Proper.{Proper}
+use Rattle.op.specs.Proper.{Proper}
 use Rattle.op.specs.declared.Op.{Op}
 use Rattle.op.specs.declared.Op.the-variants.{Fallback}
 use Rattle.op.specs.declared.Decoded.{Decoded}

@@ -1,107 +1,75 @@
--- A kind is found by its number, whatever would stand behind the last one.
+-- A kind's number is its position, in the list of kinds and in the enum as it is declared.
 -- Assumes nothing.
-use mathlib.Core.Path.{_≡_, refl}
+use mathlib.Core.Path.{_≡_, refl, sym, ap, _∙_}
 use mathlib.Core.List.{List, [], _∷_}
-use lib.ListN.{getD}
-use Rattle.op.specs.Kinds.{aluNumber, aluKinds, loadNumber, storeNumber, branchNumber}
-use Rattle.op.specs.declared.AluKind.{AluKind}
-use Rattle.op.specs.declared.AluKind.the-variants.{Add, Sub, Sll, Slt, Sltu, Xor, Srl, Sra, Or, And, Addw, Subw, Sllw, Srlw, Sraw, Mul, Mulh, Mulhsu, Mulhu, Div, Divu, Rem, Remu, Mulw, Divw, Divuw, Remw, Remuw, Andn, Orn, Xnor, Rol, Ror, Rolw, Rorw, Min, Max, Minu, Maxu, Clz, Ctz, Cpop, Clzw, Ctzw, Cpopw, SextB, SextH, ZextH, Rev8, OrcB, Sh1add, Sh2add, Sh3add, AddUw, Sh1addUw, Sh2addUw, Sh3addUw, SlliUw}
-use Rattle.op.specs.declared.LoadKind.{LoadKind}
-use Rattle.op.specs.declared.LoadKind.the-variants.{Lb, Lbu, Lh, Lhu, Lw, Lwu, Ld}
-use Rattle.op.specs.declared.StoreKind.{StoreKind}
-use Rattle.op.specs.declared.StoreKind.the-variants.{Sb, Sh, Sw, Sd}
-use Rattle.op.specs.declared.BranchKind.{BranchKind}
-use Rattle.op.specs.declared.BranchKind.the-variants.{Beq, Bne, Blt, Bge, Bltu, Bgeu}
+use mathlib.Core.Logic.{inl, inr}
+use Prim.Native.Nat.{ℕ, zero, suc, _<_}
+use native.Mathlib.Omega.{arith}
+use denote.Enum.Declared.{Choice}
+use lib.Dec.{T, eqb, eqb→eq}
+use lib.ListN.{length, getD, replicate}
+use Rattle.bits.proofs.Every.{every, at}
+use Rattle.op.specs.Kinds.{aluKinds, aluNumber, loadKinds, loadNumber, storeKinds, storeNumber, branchKinds, branchNumber, Positions}
+use Rattle.op.proofs.AluKind
+use Rattle.op.proofs.LoadKind
+use Rattle.op.proofs.StoreKind
+use Rattle.op.proofs.BranchKind
 
-pub alu-at : (k d : AluKind) → getD aluKinds (aluNumber k) d ≡ k
-alu-at Add d = refl
-alu-at Sub d = refl
-alu-at Sll d = refl
-alu-at Slt d = refl
-alu-at Sltu d = refl
-alu-at Xor d = refl
-alu-at Srl d = refl
-alu-at Sra d = refl
-alu-at Or d = refl
-alu-at And d = refl
-alu-at Addw d = refl
-alu-at Subw d = refl
-alu-at Sllw d = refl
-alu-at Srlw d = refl
-alu-at Sraw d = refl
-alu-at Mul d = refl
-alu-at Mulh d = refl
-alu-at Mulhsu d = refl
-alu-at Mulhu d = refl
-alu-at Div d = refl
-alu-at Divu d = refl
-alu-at Rem d = refl
-alu-at Remu d = refl
-alu-at Mulw d = refl
-alu-at Divw d = refl
-alu-at Divuw d = refl
-alu-at Remw d = refl
-alu-at Remuw d = refl
-alu-at Andn d = refl
-alu-at Orn d = refl
-alu-at Xnor d = refl
-alu-at Rol d = refl
-alu-at Ror d = refl
-alu-at Rolw d = refl
-alu-at Rorw d = refl
-alu-at Min d = refl
-alu-at Max d = refl
-alu-at Minu d = refl
-alu-at Maxu d = refl
-alu-at Clz d = refl
-alu-at Ctz d = refl
-alu-at Cpop d = refl
-alu-at Clzw d = refl
-alu-at Ctzw d = refl
-alu-at Cpopw d = refl
-alu-at SextB d = refl
-alu-at SextH d = refl
-alu-at ZextH d = refl
-alu-at Rev8 d = refl
-alu-at OrcB d = refl
-alu-at Sh1add d = refl
-alu-at Sh2add d = refl
-alu-at Sh3add d = refl
-alu-at AddUw d = refl
-alu-at Sh1addUw d = refl
-alu-at Sh2addUw d = refl
-alu-at Sh3addUw d = refl
-alu-at SlliUw d = refl
+-- a value of an enum of n variants without fields, as every enum's generated module has it
+abbrev Variant : ℕ → Type 0
+Variant n = Choice (replicate n [])
 
--- the other kinds, as `aluKinds` has the ALU's
-abbrev pub loadKinds : List LoadKind
-loadKinds = Lb ∷ Lbu ∷ Lh ∷ Lhu ∷ Lw ∷ Lwu ∷ Ld ∷ []
+-- all of them, in their order
+abbrev variants : {A : Type 0} (n : ℕ) → (Variant n → A) → List A
+variants zero make = []
+variants (suc n) make = make (inl tt) ∷ variants n (λ v. make (inr v))
 
-pub load-at : (k d : LoadKind) → getD loadKinds (loadNumber k) d ≡ k
-load-at Lb d = refl
-load-at Lbu d = refl
-load-at Lh d = refl
-load-at Lhu d = refl
-load-at Lw d = refl
-load-at Lwu d = refl
-load-at Ld d = refl
+abbrev position : (n : ℕ) → Variant n → ℕ
+position zero v = absurd v
+position (suc n) (inl u) = 0
+position (suc n) (inr v) = suc (position n v)
 
-abbrev pub storeKinds : List StoreKind
-storeKinds = Sb ∷ Sh ∷ Sw ∷ Sd ∷ []
+position-lt : (n : ℕ) (v : Variant n) → position n v < n
+position-lt zero v = absurd v
+position-lt (suc n) (inl u) = omega arith
+position-lt (suc n) (inr v) = omega (arith, position-lt n v)
 
-pub store-at : (k d : StoreKind) → getD storeKinds (storeNumber k) d ≡ k
-store-at Sb d = refl
-store-at Sh d = refl
-store-at Sw d = refl
-store-at Sd d = refl
+variant-at : {A : Type 0} (n : ℕ) (make : Variant n → A) (v : Variant n) (other : A) → getD (variants n make) (position n v) other ≡ make v
+variant-at zero make v other = absurd v
+variant-at (suc n) make (inl u) other = refl
+variant-at (suc n) make (inr v) other = variant-at n (λ v. make (inr v)) v other
 
-abbrev pub branchKinds : List BranchKind
-branchKinds = Beq ∷ Bne ∷ Blt ∷ Bge ∷ Bltu ∷ Bgeu ∷ []
+length-variants : {A : Type 0} (n : ℕ) (make : Variant n → A) → length (variants n make) ≡ n
+length-variants zero make = refl
+length-variants (suc n) make = ap suc (length-variants n (λ v. make (inr v)))
 
-pub branch-at : (k d : BranchKind) → getD branchKinds (branchNumber k) d ≡ k
-branch-at Beq d = refl
-branch-at Bne d = refl
-branch-at Blt d = refl
-branch-at Bge d = refl
-branch-at Bltu d = refl
-branch-at Bgeu d = refl
+-- where the list has the enum's variants in their order, and the numbers count it
+module _ {A : Type 0} (n : ℕ) (make : Variant n → A) (values : A → Variant n) (eta : (k : A) → make (values k) ≡ k) (number : A → ℕ)
+    (counted : (other : A) → T (every n (λ i. eqb (number (getD (variants n make) i other)) i))) where
+  here : (k other : A) → getD (variants n make) (position n (values k)) other ≡ k
+  here k other = variant-at n make (values k) other ∙ eta k
+
+  count : (i : ℕ) (other : A) → i < n → number (getD (variants n make) i other) ≡ i
+  count i other h = eqb→eq _ _ (at n (λ i. eqb (number (getD (variants n make) i other)) i) (counted other) i h)
+
+  number-is : (k : A) → number k ≡ position n (values k)
+  number-is k = sym (ap number (here k k)) ∙ count (position n (values k)) k (position-lt n (values k))
+
+  positions : Positions (variants n make) number
+  positions = record {
+    below = λ k. rw (length-variants n make, number-is k) (position-lt n (values k));
+    at = λ k other. ap (λ (i : ℕ). getD (variants n make) i other) (number-is k) ∙ here k other;
+    only = λ i other h. count i other (rw (length-variants n make) at h);
+  }
+
+pub alu-positions : Positions aluKinds aluNumber
+alu-positions = positions 58 AluKind.make AluKind.as-values AluKind.eta aluNumber (λ other. tt)
+
+pub load-positions : Positions loadKinds loadNumber
+load-positions = positions 7 LoadKind.make LoadKind.as-values LoadKind.eta loadNumber (λ other. tt)
+
+pub store-positions : Positions storeKinds storeNumber
+store-positions = positions 4 StoreKind.make StoreKind.as-values StoreKind.eta storeNumber (λ other. tt)
+
+pub branch-positions : Positions branchKinds branchNumber
+branch-positions = positions 6 BranchKind.make BranchKind.as-values BranchKind.eta branchNumber (λ other. tt)

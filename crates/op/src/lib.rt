@@ -1,9 +1,11 @@
 // Ops as the Rust has them, and an op as document 01's record of sixteen bytes. (block.rs, types)
+use KindAt::Known;
+use KindAt::Unknown;
 ghost use mathlib.Core.Path.{_≡_};
 ghost use Prim.Native.Nat.{_+_, _≤_};
 ghost use lib.ListN.{length};
 ghost use Rattle.bits.specs.Bytes.{patch};
-ghost use Rattle.op.specs.Kinds.{aluNumber, loadNumber, storeNumber, branchNumber};
+ghost use Rattle.op.specs.Kinds.{aluNumber, kindAt, loadNumber, storeNumber, branchNumber};
 ghost use Rattle.op.specs.Record.{bits64, fields, opFields, opBytes, opRecord};
 ghost use Rattle.op.specs.WellFormed.{limits, within, ilenKnown, opWellFormed};
 
@@ -216,6 +218,79 @@ fn alu_number(kind: AluKind) -> u8
         AluKind::Sh2addUw => 55,
         AluKind::Sh3addUw => 56,
         AluKind::SlliUw => 57,
+    }
+}
+
+// What a number names.
+pub enum KindAt {
+    Known(AluKind),
+    Unknown,
+}
+
+// The kind of a number.
+pub fn kind_at(n: u64) -> KindAt
+    ensures { λ r. ⌜ r ≡ kindAt n ⌝ }
+{
+    match n {
+        0 => Known(AluKind::Add),
+        1 => Known(AluKind::Sub),
+        2 => Known(AluKind::Sll),
+        3 => Known(AluKind::Slt),
+        4 => Known(AluKind::Sltu),
+        5 => Known(AluKind::Xor),
+        6 => Known(AluKind::Srl),
+        7 => Known(AluKind::Sra),
+        8 => Known(AluKind::Or),
+        9 => Known(AluKind::And),
+        10 => Known(AluKind::Addw),
+        11 => Known(AluKind::Subw),
+        12 => Known(AluKind::Sllw),
+        13 => Known(AluKind::Srlw),
+        14 => Known(AluKind::Sraw),
+        15 => Known(AluKind::Mul),
+        16 => Known(AluKind::Mulh),
+        17 => Known(AluKind::Mulhsu),
+        18 => Known(AluKind::Mulhu),
+        19 => Known(AluKind::Div),
+        20 => Known(AluKind::Divu),
+        21 => Known(AluKind::Rem),
+        22 => Known(AluKind::Remu),
+        23 => Known(AluKind::Mulw),
+        24 => Known(AluKind::Divw),
+        25 => Known(AluKind::Divuw),
+        26 => Known(AluKind::Remw),
+        27 => Known(AluKind::Remuw),
+        28 => Known(AluKind::Andn),
+        29 => Known(AluKind::Orn),
+        30 => Known(AluKind::Xnor),
+        31 => Known(AluKind::Rol),
+        32 => Known(AluKind::Ror),
+        33 => Known(AluKind::Rolw),
+        34 => Known(AluKind::Rorw),
+        35 => Known(AluKind::Min),
+        36 => Known(AluKind::Max),
+        37 => Known(AluKind::Minu),
+        38 => Known(AluKind::Maxu),
+        39 => Known(AluKind::Clz),
+        40 => Known(AluKind::Ctz),
+        41 => Known(AluKind::Cpop),
+        42 => Known(AluKind::Clzw),
+        43 => Known(AluKind::Ctzw),
+        44 => Known(AluKind::Cpopw),
+        45 => Known(AluKind::SextB),
+        46 => Known(AluKind::SextH),
+        47 => Known(AluKind::ZextH),
+        48 => Known(AluKind::Rev8),
+        49 => Known(AluKind::OrcB),
+        50 => Known(AluKind::Sh1add),
+        51 => Known(AluKind::Sh2add),
+        52 => Known(AluKind::Sh3add),
+        53 => Known(AluKind::AddUw),
+        54 => Known(AluKind::Sh1addUw),
+        55 => Known(AluKind::Sh2addUw),
+        56 => Known(AluKind::Sh3addUw),
+        57 => Known(AluKind::SlliUw),
+        _ => Unknown,
     }
 }
 

@@ -4,10 +4,10 @@ use Prim.Native.Nat.{ℕ, _+_, _-_, _*_, _/_, _%_, _^_, _≤_}
 use mathlib.Core.Path.{_≡_}
 use mathlib.Core.Bool.{Bool, cond, _&&_}
 use mathlib.Core.List.{List, [], _∷_, _++_}
-use lib.Dec.{eqb, leb, ltb}
+use lib.Dec.{eqb, leb}
 use lib.ListN.{length, getD}
 use Rattle.bits.specs.Bytes.{le, doublewordAt, patch}
-use Rattle.block.specs.Memory.{goodMemory}
+use Rattle.block.specs.Memory.{goodMemory, inMemory}
 use Rattle.store.specs.declared.Geometry.{Geometry}
 use Rattle.store.specs.declared.Opened.{Opened}
 use Rattle.store.specs.declared.Opened.the-variants.{Sound, NotAStore}
@@ -60,9 +60,9 @@ pub record Fitting (g : Geometry) (s : List ℕ) : Type 0 where
   pub bounds : Bounded g
   pub size : length s ≡ storeSize g
 
--- an address in memory, its page counted from the base, and its slot
+-- an address lies in the store's memory; its page, counted from the base; its slot
 unfoldable pub holds : Geometry → ℕ → Bool
-holds g a = leb (g .base) a && ltb a (g .base + 4096 * g .pages)
+holds g a = inMemory (4096 * g .pages) (g .base) a
 
 abbrev pub pageOf : Geometry → ℕ → ℕ
 pageOf g a = (a - g .base) / 4096

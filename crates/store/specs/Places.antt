@@ -27,6 +27,13 @@ withBit s p on = set s (32 + p / 8) (putBit on (p % 8) (getD s (32 + p / 8) 0))
 unfoldable pub emptyPlace : ℕ → List ℕ
 emptyPlace z = replicate 8 255 ++ replicate (z - 8) 0
 
+-- the bytes of a place that holds a record, and the record that a place shows: in version 1 the same bytes
+unfoldable pub placeFor : Geometry → List ℕ → List ℕ
+placeFor g rec = rec
+
+unfoldable pub recordIn : Geometry → List ℕ → List ℕ
+recordIn g place = place
+
 -- a place after a notice in a page, which is counted from address 0
 unfoldable pub emptied : ℕ → List ℕ → List ℕ
 emptied page p = cond (eqb (doublewordAt p 0 / 4096) page) (emptyPlace (length p)) p

@@ -79,15 +79,12 @@ impl Geometry {
         self.front() + self.size * self.slots()
     }
 
-    // Whether the address lies in memory.
+    // Whether the address lies in the store's memory.
     pub fn holds(self, address: u64) -> bool
         requires { ⌜ Bounded self ⌝ }
         ensures { λ r. ⌜ r ≡ holds self address ⌝ }
     {
-        if address < self.base {
-            return false;
-        }
-        address < self.base + PAGE * self.pages
+        block::in_memory(PAGE * self.pages, self.base, address)
     }
 
     // The page of an address in memory, counted from the base.

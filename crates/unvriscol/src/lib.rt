@@ -1,13 +1,14 @@
 // The C door: what the Rust core, or a C program, links. Each function is the call behind it on numbers and byte slices, promises what that call
 // promises, by the same definition, and asks nothing of its caller. include/unvriscol.h declares them in this order.
 ghost use mathlib.Core.Path.{_≡_};
+ghost use Rattle.answer.specs.Answer.{answerNumber, valuedNumber, valuedValue};
 ghost use Rattle.decode.specs.Call.{wordCall, halfCall};
 ghost use Rattle.alu.specs.Call.{aluCall};
 ghost use Rattle.form.specs.Forming.{rust};
 ghost use Rattle.form.specs.Call.{formCall};
-ghost use Rattle.cache.specs.Answers.{makeNumber, lookupNumber, lookupValue, insertNumber, noticeNumber, noticeValue, flushNumber, generationNumber, generationValue};
+ghost use Rattle.cache.specs.Answers.{lookupNumber, lookupValue, reportNumber, reportValue};
 ghost use Rattle.cache.specs.Calls.{makeCall, lookupCall, insertCall, noticeCall, flushCall, generationCall};
-ghost use Rattle.write.specs.Write.{writeNumber, writeValue, writeCall};
+ghost use Rattle.write.specs.Write.{writeCall};
 ghost use Rattle.unvriscol.specs.Seen.{both, seen, seenWithTwo};
 
 // Document 01's number, and the value beside it, which is 0 at every number but 0.
@@ -38,7 +39,7 @@ pub extern "C" fn uv_decode_halfword(raw: u16, lent: &mut [u8]) -> u64
 // Computes an ALU kind, given by its number; the value is the result.
 #[no_mangle]
 pub extern "C" fn uv_alu(kind: u64, lhs: u64, rhs: u64) -> Answer
-    ensures { λ r. ⌜ (r .number, r .value) ≡ aluCall kind lhs rhs ⌝ }
+    ensures { λ r. ⌜ (r .number, r .value) ≡ both valuedNumber valuedValue (aluCall kind lhs rhs) ⌝ }
 {
     let answer = alu::alu_call(kind, lhs, rhs);
     let number = answer.number();
@@ -58,7 +59,7 @@ pub extern "C" fn uv_form(memory: &[u8], base: u64, address: u64, lent: &mut [u8
 // Makes a new store of the lent bytes.
 #[no_mangle]
 pub extern "C" fn uv_make(store: &mut [u8], e: u64, base: u64, pages: u64) -> u64
-    ensures { λ r. ⌜ (r, now (store .exit)) ≡ seen makeNumber (makeCall e base pages (now (store .entry))) ⌝ }
+    ensures { λ r. ⌜ (r, now (store .exit)) ≡ seen answerNumber (makeCall e base pages (now (store .entry))) ⌝ }
 {
     let answer = cache::make(store, e, base, pages);
     answer.number()
@@ -78,7 +79,7 @@ pub extern "C" fn uv_lookup(store: &[u8], address: u64) -> Answer
 // Inserts the block record into the place of its address's slot.
 #[no_mangle]
 pub extern "C" fn uv_insert(store: &mut [u8], address: u64, lent: &[u8]) -> u64
-    ensures { λ r. ⌜ (r, now (store .exit)) ≡ seen insertNumber (insertCall (now (store .entry)) address (now (lent .entry))) ⌝ }
+    ensures { λ r. ⌜ (r, now (store .exit)) ≡ seen answerNumber (insertCall (now (store .entry)) address (now (lent .entry))) ⌝ }
 {
     let answer = cache::insert(store, address, lent);
     answer.number()
@@ -87,7 +88,7 @@ pub extern "C" fn uv_insert(store: &mut [u8], address: u64, lent: &[u8]) -> u64
 // Notices a write at the address; the value is the slots examined.
 #[no_mangle]
 pub extern "C" fn uv_notice(store: &mut [u8], address: u64) -> Answer
-    ensures { λ r. ⌜ ((r .number, r .value), now (store .exit)) ≡ seen (both noticeNumber noticeValue) (noticeCall (now (store .entry)) address) ⌝ }
+    ensures { λ r. ⌜ ((r .number, r .value), now (store .exit)) ≡ seen (both reportNumber reportValue) (noticeCall (now (store .entry)) address) ⌝ }
 {
     let answer = cache::notice(store, address);
     let number = answer.number();
@@ -98,7 +99,7 @@ pub extern "C" fn uv_notice(store: &mut [u8], address: u64) -> Answer
 // Empties the cache.
 #[no_mangle]
 pub extern "C" fn uv_flush(store: &mut [u8]) -> u64
-    ensures { λ r. ⌜ (r, now (store .exit)) ≡ seen flushNumber (flushCall (now (store .entry))) ⌝ }
+    ensures { λ r. ⌜ (r, now (store .exit)) ≡ seen answerNumber (flushCall (now (store .entry))) ⌝ }
 {
     let answer = cache::flush(store);
     answer.number()
@@ -107,7 +108,7 @@ pub extern "C" fn uv_flush(store: &mut [u8]) -> u64
 // The value is the store's generation.
 #[no_mangle]
 pub extern "C" fn uv_generation(store: &[u8]) -> Answer
-    ensures { λ r. ⌜ (r .number, r .value) ≡ both generationNumber generationValue (generationCall (now (store .entry))) ⌝ }
+    ensures { λ r. ⌜ (r .number, r .value) ≡ both valuedNumber valuedValue (generationCall (now (store .entry))) ⌝ }
 {
     let answer = cache::generation(store);
     let number = answer.number();
@@ -124,7 +125,7 @@ pub extern "C" fn uv_guest_write(
     size: u64,
     value: u64,
 ) -> Answer
-    ensures { λ r. ⌜ ((r .number, r .value), now (store .exit), now (memory .exit)) ≡ seenWithTwo (both writeNumber writeValue) (writeCall (now (store .entry)) (now (memory .entry)) address size value) ⌝ }
+    ensures { λ r. ⌜ ((r .number, r .value), now (store .exit), now (memory .exit)) ≡ seenWithTwo (both reportNumber reportValue) (writeCall (now (store .entry)) (now (memory .entry)) address size value) ⌝ }
 {
     let answer = write::guest_write(store, memory, address, size, value);
     let number = answer.number();

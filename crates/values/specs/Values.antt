@@ -3,6 +3,8 @@
 use Prim.Native.Nat.{ℕ}
 use mathlib.Core.List.{List, [], _∷_}
 use lib.IntN.{pos, negsuc}
+use Rattle.answer.specs.declared.Valued.{Valued}
+use Rattle.answer.specs.declared.Valued.the-variants.{Value}
 use Rattle.op.specs.declared.Decoded.{Decoded}
 use Rattle.op.specs.declared.Decoded.the-variants.{Some, None}
 use Rattle.op.specs.declared.Op.the-variants.{AluImm, Jalr}
@@ -11,8 +13,6 @@ use Rattle.op.specs.declared.AluKind.the-variants.{Add, SextB, Sra, Addw, Clz, 
 use Rattle.word.specs.Word.{rustWord}
 use Rattle.halfword.specs.Halfword.{rustHalf}
 use Rattle.alu.specs.Rust.{rustAlu}
-use Rattle.alu.specs.declared.AluAnswer.{AluAnswer}
-use Rattle.alu.specs.declared.AluAnswer.the-variants.{Computed}
 
 pub data Question : Type 0 where
   halfword word : ℕ → Question
@@ -20,21 +20,21 @@ pub data Question : Type 0 where
 
 pub data Answer : Type 0 where
   reads : Decoded → Answer
-  computes : AluAnswer → Answer
+  computes : Valued → Answer
 
-pub data Value : Type 0 where
-  _is_ : Question → Answer → Value
+pub data Row : Type 0 where
+  _is_ : Question → Answer → Row
 
 infix 5 _is_
-abbrev pub found : Value → Answer
+abbrev pub found : Row → Answer
 found (halfword h is a) = reads (rustHalf h)
 found (word w is a) = reads (rustWord w)
 found (alu kind a b is c) = computes (rustAlu kind a b)
 
-abbrev pub stated : Value → Answer
+abbrev pub stated : Row → Answer
 stated (q is a) = a
 
-abbrev pub values : List Value
+abbrev pub values : List Row
 values =
     (halfword 0x0000 is reads None)
     ∷ (halfword 0x9002 is reads None)
@@ -45,8 +45,8 @@ values =
     ∷ (word 0x60451513 is reads None)
     ∷ (word 0x6b855513 is reads None)
     ∷ (word 0x28755513 is reads None)
-    ∷ (alu Sra 0x8000_0000_0000_0000 1 is computes (Computed 0xc000_0000_0000_0000))
-    ∷ (alu Addw 0x7fff_ffff 1 is computes (Computed 0xffff_ffff_8000_0000))
-    ∷ (alu Clz 0 0 is computes (Computed 64))
-    ∷ (alu Clzw 0 0 is computes (Computed 32))
+    ∷ (alu Sra 0x8000_0000_0000_0000 1 is computes (Value 0xc000_0000_0000_0000))
+    ∷ (alu Addw 0x7fff_ffff 1 is computes (Value 0xffff_ffff_8000_0000))
+    ∷ (alu Clz 0 0 is computes (Value 64))
+    ∷ (alu Clzw 0 0 is computes (Value 32))
     ∷ []

@@ -13,7 +13,7 @@ use Rattle.op.specs.declared.Op.{Op}
 use Rattle.op.specs.declared.Op.the-variants.{Fallback}
 use Rattle.op.specs.declared.Decoded.the-variants.{Some, None}
 use Rattle.op.proofs.Fallback.{Other, no-fallback, none, some, other-op}
-use Rattle.op.proofs.Proper.{Proper}
+use Rattle.op.specs.Proper.{Proper}
 use Rattle.word.specs.Instruction.{opcode, funct3, funct7, rs2}
 use Rattle.word.specs.Word.{formBy, formOf, opOf, rustWord}
 use Rattle.word.specs.declared.Form.{Form}

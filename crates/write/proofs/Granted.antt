@@ -3,20 +3,20 @@
 use mathlib.Core.Path.{_≡_, refl, sym, ap, subst}
 use mathlib.Core.Bool.{Bool, true, false, cond}
 use mathlib.Core.List.{List}
-use Prim.Native.Nat.{ℕ, _+_, _*_, _^_, _≤_}
+use Prim.Native.Nat.{ℕ, _+_, _-_, _*_, _^_, _≤_}
 use native.Mathlib.Omega.{arith}
-use lib.Dec.{eqb, leb}
-use borrow.Author.Tests.{eqb-true, leb-true, ne-eqb}
+use lib.Dec.{eqb}
+use borrow.Author.Tests.{eqb-true, ne-eqb}
 use Rattle.bits.proofs.Every.{decide}
 use Rattle.bits.proofs.Tests.{and-both, true-false}
-use Rattle.store.specs.Layout.{opened, Bounded}
+use Rattle.store.specs.Layout.{opened, holds, Bounded}
 use Rattle.store.specs.declared.Geometry.{Geometry}
 use Rattle.store.specs.declared.Opened.{Opened}
 use Rattle.store.specs.declared.Opened.the-variants.{Sound, NotAStore}
-use Rattle.store.proofs.Known.{slots-le}
+use Rattle.store.proofs.Known.{holds-are, slots-le}
 use Rattle.cache.proofs.Checks.{rejected}
 use Rattle.cache.specs.Calls.{watched, evicted, noticedIn}
-use Rattle.cache.specs.declared.Refusal.the-variants.{BadGeometry, OutsideMemory, WrongWriteSize}
+use Rattle.answer.specs.declared.Refusal.the-variants.{BadGeometry, OutsideMemory, WrongWriteSize}
 use Rattle.cache.specs.declared.Judged.the-variants.{Accepted, Rejected}
 use Rattle.cache.specs.declared.Report.{Report}
 use Rattle.write.specs.Write.{goodSize, inside, writeJudged}
@@ -43,9 +43,9 @@ module _ (s : List ℕ) (size a n : ℕ) (g : Geometry) where
     where
       facts : opened s ≡ Sound g → size ≡ 4096 * g .pages → goodSize n ≡ true → inside g a n ≡ true → Granted s size a n g
       facts e w t i =
-          let b = and-both (leb (g .base) a) _ i in
+          let b = and-both (holds g a) (holds g (a + n - 1)) i in
           let r = size-small n t in
-          record { sound = e; whole = w; some = r .0; few = r .1; low = leb-true _ _ (b .0); high = leb-true _ _ (b .1) }
+          record { sound = e; whole = w; some = r .0; few = r .1; low = holds-are g a (b .0) .0; high = omega (arith, holds-are g (a + n - 1) (b .1)) }
 
       tests : (k : Geometry) → opened s ≡ Sound k → (x y z : Bool) → eqb size (4096 * k .pages) ≡ x → goodSize n ≡ y → inside k a n ≡ z → cond x (cond y (cond z (Accepted k) (Rejected OutsideMemory)) (Rejected WrongWriteSize)) (Rejected BadGeometry) ≡ Accepted g → Granted s size a n g
       tests k e true true true ex ey ez q =

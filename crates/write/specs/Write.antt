@@ -3,38 +3,28 @@
 use Prim.Native.Nat.{ℕ, _+_, _-_, _*_, _/_}
 use mathlib.Core.Bool.{Bool, true, false, cond, _&&_}
 use mathlib.Core.List.{List, [], _∷_}
-use lib.Dec.{eqb, leb}
+use lib.Dec.{eqb}
 use lib.ListN.{length}
 use Rattle.bits.specs.Bytes.{le, patch}
 use Rattle.bits.specs.Match.{_⇒_, case}
-use Rattle.store.specs.Layout.{opened}
+use Rattle.store.specs.Layout.{opened, holds}
 use Rattle.store.specs.declared.Geometry.{Geometry}
 use Rattle.store.specs.declared.Opened.{Opened}
 use Rattle.store.specs.declared.Opened.the-variants.{Sound, NotAStore}
-use Rattle.cache.specs.Answers.{refusalNumber}
-use Rattle.cache.specs.Calls.{noticedIn}
-use Rattle.cache.specs.declared.Refusal.the-variants.{NoStore, BadGeometry, OutsideMemory, WrongWriteSize}
+use Rattle.answer.specs.declared.Refusal.the-variants.{NoStore, BadGeometry, OutsideMemory, WrongWriteSize}
+use Rattle.cache.specs.Calls.{noticedIn, summed}
 use Rattle.cache.specs.declared.Judged.{Judged}
 use Rattle.cache.specs.declared.Judged.the-variants.{Accepted, Rejected}
 use Rattle.cache.specs.declared.Report.{Report}
-use Rattle.write.specs.declared.WriteAnswer.{WriteAnswer}
-use Rattle.write.specs.declared.WriteAnswer.the-variants.{Written, WriteRefused}
-
-abbrev pub writeNumber : WriteAnswer → ℕ
-writeNumber (Written n) = 0
-writeNumber (WriteRefused why) = refusalNumber why
-
--- the sum of the slots examined
-abbrev pub writeValue : WriteAnswer → ℕ
-writeValue (Written n) = n .examined
-writeValue (WriteRefused why) = 0
+use Rattle.cache.specs.declared.ReportAnswer.{ReportAnswer}
+use Rattle.cache.specs.declared.ReportAnswer.the-variants.{Reported, NotReported}
 
 abbrev pub goodSize : ℕ → Bool
 goodSize n = case n ((1 ⇒ true) ∷ (2 ⇒ true) ∷ (4 ⇒ true) ∷ (8 ⇒ true) ∷ []) false
 
--- every byte of the write lies in memory
+-- the first and the last byte of the write lie in memory
 abbrev pub inside : Geometry → ℕ → ℕ → Bool
-inside g a n = leb (g .base) a && leb (a + n) (g .base + 4096 * g .pages)
+inside g a n = holds g a && holds g (a + n - 1)
 
 abbrev pub writeJudged : Opened → ℕ → ℕ → ℕ → Judged
 writeJudged (Sound g) size a n =
@@ -43,10 +33,6 @@ writeJudged (Sound g) size a n =
     (Rejected BadGeometry)
 writeJudged NotAStore size a n = Rejected NoStore
 
--- two notices report together
-abbrev pub summed : Report → Report → Report
-summed p q = record { examined = p .examined + q .examined }
-
 abbrev pub andThen : Geometry → Report × List ℕ → ℕ → Report × List ℕ
 andThen g p b = (summed (p .0) (noticedIn g (p .1) b .0), noticedIn g (p .1) b .1)
 
@@ -54,10 +40,10 @@ andThen g p b = (summed (p .0) (noticedIn g (p .1) b .0), noticedIn g (p .1) b .
 abbrev pub touched : Geometry → List ℕ → ℕ → ℕ → Report × List ℕ
 touched g s a b = cond (eqb (a / 4096) (b / 4096)) (noticedIn g s a) (andThen g (noticedIn g s a) b)
 
-abbrev pub written : Judged → List ℕ → List ℕ → ℕ → ℕ → ℕ → WriteAnswer × List ℕ × List ℕ
+abbrev pub written : Judged → List ℕ → List ℕ → ℕ → ℕ → ℕ → ReportAnswer × List ℕ × List ℕ
 written (Accepted g) s m a n v =
-    (Written (touched g s a (a + n - 1) .0), touched g s a (a + n - 1) .1, patch m (a - g .base) (le n v))
-written (Rejected why) s m a n v = (WriteRefused why, s, m)
+    (Reported (touched g s a (a + n - 1) .0), touched g s a (a + n - 1) .1, patch m (a - g .base) (le n v))
+written (Rejected why) s m a n v = (NotReported why, s, m)
 
-abbrev pub writeCall : List ℕ → List ℕ → ℕ → ℕ → ℕ → WriteAnswer × List ℕ × List ℕ
+abbrev pub writeCall : List ℕ → List ℕ → ℕ → ℕ → ℕ → ReportAnswer × List ℕ × List ℕ
 writeCall s m a n v = written (writeJudged (opened s) (length m) a n) s m a n v

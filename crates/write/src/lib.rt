@@ -1,43 +1,17 @@
 // A guest's write to its memory, with the notices that the cache needs.
 ghost use mathlib.Core.Path.{_≡_};
-ghost use Prim.Native.Nat.{_+_, _≤_, _<_, _^_};
+ghost use Prim.Native.Nat.{_+_, _≤_};
 ghost use lib.ListN.{length};
 ghost use Rattle.bits.specs.Bytes.{le, patch};
 ghost use Rattle.store.specs.Layout.{opened, Bounded, Fitting};
-ghost use Rattle.write.specs.Write.{writeNumber, writeValue, goodSize, inside, writeJudged, summed, touched, writeCall};
+ghost use Rattle.write.specs.Write.{goodSize, inside, writeJudged, touched, writeCall};
+use answer::Refusal;
 use block::PAGE;
 use cache::Judged;
-use cache::Refusal;
 use cache::Report;
+use cache::ReportAnswer;
 use store::Geometry;
 use store::Opened;
-
-pub enum WriteAnswer {
-    Written(Report),
-    WriteRefused(Refusal),
-}
-
-impl WriteAnswer {
-    // Document 01's number.
-    pub fn number(self) -> u64
-        ensures { λ r. ⌜ r ≡ writeNumber self ⌝ }
-    {
-        match self {
-            Self::Written(_) => 0,
-            Self::WriteRefused(why) => why.number(),
-        }
-    }
-
-    // The sum of the slots examined.
-    pub fn value(self) -> u64
-        ensures { λ r. ⌜ r ≡ writeValue self ⌝ }
-    {
-        match self {
-            Self::Written(report) => report.examined,
-            Self::WriteRefused(_) => 0,
-        }
-    }
-}
 
 fn good_size(n: u64) -> bool
     ensures { λ r. ⌜ r ≡ goodSize n ⌝ }
@@ -53,7 +27,7 @@ fn good_size(n: u64) -> bool
 
 // Whether all n bytes lie in memory; no sum here can wrap.
 fn inside(g: Geometry, address: u64, n: u64) -> bool
-    requires { ⌜ Bounded g × (n ≤ 8) ⌝ }
+    requires { ⌜ Bounded g × ((1 ≤ n) × (n ≤ 8)) ⌝ }
     ensures { λ r. ⌜ r ≡ inside g address n ⌝ }
 {
     if address < g.base {
@@ -85,15 +59,6 @@ fn judge_write(store: &[u8], size: usize, address: u64, n: u64) -> Judged
     }
 }
 
-fn sum(first: Report, second: Report) -> Report
-    requires { ⌜ first .examined + second .examined < 2 ^ 64 ⌝ }
-    ensures { λ r. ⌜ r ≡ summed first second ⌝ }
-{
-    Report {
-        examined: first.examined + second.examined,
-    }
-}
-
 // A notice for the page of the first byte, and one for that of the last where it is another.
 fn touch(store: &mut [u8], g: Geometry, address: u64, last: u64) -> Report
     requires { ⌜ Fitting g (now store) ⌝ }
@@ -103,7 +68,7 @@ fn touch(store: &mut [u8], g: Geometry, address: u64, last: u64) -> Report
     if address / PAGE == last / PAGE {
         return first;
     }
-    sum(first, cache::notice_in(store, g, last))
+    cache::sum(first, cache::notice_in(store, g, last))
 }
 
 // The n low bytes of the value.
@@ -122,15 +87,15 @@ pub fn guest_write(
     address: u64,
     n: u64,
     value: u64,
-) -> WriteAnswer
+) -> ReportAnswer
     ensures { λ r. ⌜ (r, now (store .exit), now (memory .exit)) ≡ writeCall (now (store .entry)) (now (memory .entry)) address n value ⌝ }
 {
     match judge_write(store, memory.len(), address, n) {
         Judged::Accepted(g) => {
             let report = touch(store, g, address, address + n - 1);
             put_low(memory, (address - g.base) as usize, n as usize, value);
-            WriteAnswer::Written(report)
+            ReportAnswer::Reported(report)
         }
-        Judged::Rejected(why) => WriteAnswer::WriteRefused(why),
+        Judged::Rejected(why) => ReportAnswer::NotReported(why),
     }
 }

@@ -81,7 +81,8 @@ impl<B: AsRef<[u8]> + AsMut<[u8]>> Store<B> {
         })
     }
 
-    /// Drops the blocks of the address's page. How many slots were examined: all, or none where the page had no block.
+    /// Drops the blocks of the address's page, to be told after a write there and before the next lookup. How many slots were examined: all, or none
+    /// where the page had no block.
     #[inline]
     pub fn notice(&mut self, address: u64) -> u64 {
         let bytes = self.bytes.as_mut();

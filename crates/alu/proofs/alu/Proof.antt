@@ -8,11 +8,11 @@ use borrow.Author.Needs.{needs}
 use lib.Count.{leading-le, trailing-le, ones-le}
 use mir.Syntax.{w64}
 use mir.Val.{SFits}
+use Rattle.answer.specs.declared.Valued.the-variants.{Value}
 use Rattle.bits.proofs.Bit.{masked-lt}
 use Rattle.bits.proofs.Signed.{shr-back, wrapped}
 use Rattle.op.specs.Record.{bits64}
 use Rattle.alu.specs.Rust.{widen, minus}
-use Rattle.alu.specs.declared.AluAnswer.the-variants.{Computed}
 use Rattle.alu.proofs.alu.Statement.{statement}
 use Rattle.alu.proofs.alu.Tie as tie
 
@@ -47,7 +47,7 @@ alu-spec =
     -- Add
     (λ c. rw (c .before .enum-told .given .1, c .wrapping-add-u64 .ensures))
     -- Sub
-    (λ c. rw (c .before .enum-told2 .given .1) (ap Computed (wrapped 64 (c .wrapping-sub-u64 .result) _ _ (omega arith) (omega arith) (c .wrapping-sub-u64 .ensures))))
+    (λ c. rw (c .before .enum-told2 .given .1) (ap Value (wrapped 64 (c .wrapping-sub-u64 .result) _ _ (omega arith) (omega arith) (c .wrapping-sub-u64 .ensures))))
     (λ c. rw (c .enum-told3 .given .1))
     -- Slt
     (λ c. rw (c .before .enum-told4 .given .1, c .less .ensures))
@@ -55,14 +55,14 @@ alu-spec =
     -- Sra
     (λ c.
     let ok : SFits w64 (c .before .as-i64 .result) = search needs in
-    rw (c .before .before .enum-told8 .given .1) (ap Computed (c .bits-of .ensures ∙ ap bits64 (shr-back _ _ _ ok (c .before .as-i64 .ensures)))))
+    rw (c .before .before .enum-told8 .given .1) (ap Value (c .bits-of .ensures ∙ ap bits64 (shr-back _ _ _ ok (c .before .as-i64 .ensures)))))
     (λ c. rw (c .enum-told9 .given .1)) (λ c. rw (c .enum-told10 .given .1))
     -- Addw
     (λ c. rw (c .before .before .before .before .enum-told11 .given .1, c .widen-word .ensures, c .before .wrapping-add-u32 .ensures, c .before .before .as-u322 .ensures, c .before .before .before .as-u32 .ensures))
     -- Subw
     (λ c.
     rw (c .before .before .before .before .enum-told12 .given .1, c .widen-word2 .ensures)
-    (ap (λ (x : ℕ). Computed (widen 32 x))
+    (ap (λ (x : ℕ). Value (widen 32 x))
     (wrapped 32 (c .before .wrapping-sub-u32 .result) _ _ (omega arith) (omega arith) (c .before .wrapping-sub-u32 .ensures) ∙ ap₂ (minus 32) (c .before .before .before .as-u323 .ensures) (c .before .before .as-u324 .ensures))))
     -- Sllw
     (λ c. rw (c .before .before .enum-told13 .given .1, c .widen-word3 .ensures, c .before .as-u325 .ensures))
@@ -71,7 +71,7 @@ alu-spec =
     -- Sraw
     (λ c.
     let ok : SFits w64 (c .before .sign-extend .result) = search needs in
-    rw (c .before .before .enum-told15 .given .1) (ap Computed (c .bits-of2 .ensures ∙ ap bits64 (shr-back _ _ _ ok (c .before .sign-extend .ensures)))))
+    rw (c .before .before .enum-told15 .given .1) (ap Value (c .bits-of2 .ensures ∙ ap bits64 (shr-back _ _ _ ok (c .before .sign-extend .ensures)))))
     (λ c. rw (c .enum-told16 .given .1)) (λ c. rw (c .enum-told17 .given .1)) (λ c. rw (c .enum-told18 .given .1)) (λ c. rw (c .enum-told19 .given .1))
     (λ c. rw (c .enum-told20 .given .1)) (λ c. rw (c .enum-told21 .given .1)) (λ c. rw (c .enum-told22 .given .1)) (λ c. rw (c .enum-told23 .given .1))
     (λ c. rw (c .enum-told24 .given .1)) (λ c. rw (c .enum-told25 .given .1)) (λ c. rw (c .enum-told26 .given .1)) (λ c. rw (c .enum-told27 .given .1))

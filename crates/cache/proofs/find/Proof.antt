@@ -43,10 +43,10 @@ find-spec =
     let known = p .before .before .before in
     let a = known .before .before .before .before .before .args in
     let there = ap (doublewordAt (a .store .now)) (sym (p .place .ensures)) ∙ sym (c .before .doubleword-at .ensures) ∙ c .if2 .taken in
-    rw (good known, sym (p .before .before .may-hold .ensures) ∙ p .before .if1 .taken, eq-eqb _ _ there) (ap (λ (at : ℕ). Hit at (known .before .g .given .0 .0 .size)) (p .place .ensures)))
+    rw (good known, sym (p .before .before .holds .ensures) ∙ p .before .if1 .taken, eq-eqb _ _ there) (ap (λ (at : ℕ). Hit at (known .before .g .given .0 .0 .size)) (p .place .ensures)))
     (λ c.
     let p = c .before .before in
     let known = p .before .before .before in
     let a = known .before .before .before .before .before .args in
-    rw (good known, sym (p .before .before .may-hold .ensures) ∙ p .before .if1 .taken, ne-eqb _ _ (λ h. c .if2 .left (c .before .doubleword-at .ensures ∙ ap (doublewordAt (a .store .now)) (p .place .ensures) ∙ h))))
-    (λ c. rw (good (c .before .before), sym (c .before .may-hold .ensures) ∙ c .if1 .left)))
+    rw (good known, sym (p .before .before .holds .ensures) ∙ p .before .if1 .taken, ne-eqb _ _ (λ h. c .if2 .left (c .before .doubleword-at .ensures ∙ ap (doublewordAt (a .store .now)) (p .place .ensures) ∙ h))))
+    (λ c. rw (good (c .before .before), sym (c .before .holds .ensures) ∙ c .if1 .left)))

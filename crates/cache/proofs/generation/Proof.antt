@@ -3,7 +3,7 @@
 use mathlib.Core.Path.{sym, ap, _∙_}
 use native.Mathlib.Omega.{arith}
 use Rattle.store.proofs.Known.{opened-says}
-use Rattle.cache.specs.declared.GenerationAnswer.the-variants.{GenerationIs}
+use Rattle.answer.specs.declared.Valued.the-variants.{Value}
 use borrow.Author.Needs.{needs}
 use Rattle.cache.proofs.generation.Statement.{statement}
 use Rattle.cache.proofs.generation.Tie as tie
@@ -17,5 +17,5 @@ generation-spec =
     let h = opened-says _ _ (sym (c .before .before .«open» .ensures) ∙ c .enum-told .given .1) .head .long in
     omega arith)
     (λ c. search needs)
-    (λ c. rw (sym (c .before .before .before .«open» .ensures) ∙ c .before .enum-told .given .1) (ap GenerationIs (c .doubleword-at .ensures)))
+    (λ c. rw (sym (c .before .before .before .«open» .ensures) ∙ c .before .enum-told .given .1) (ap Value (c .doubleword-at .ensures)))
     (λ c. rw (sym (c .before .before .«open» .ensures) ∙ c .enum-told2 .given .1)))

@@ -1,7 +1,8 @@
 -- `cache::insert` meets its contract: decided first, then written.
 -- Assumes nothing.
 use mathlib.Core.Path.{sym, _∙_}
-use Rattle.cache.proofs.Checks.{Taken, insert-taken, opened-fits, opened-size}
+use Rattle.store.proofs.Held.{place-long}
+use Rattle.cache.proofs.Checks.{Taken, insert-taken, opened-fits}
 use borrow.Author.Needs.{needs}
 use Rattle.cache.proofs.insert.Statement.{statement}
 use Rattle.cache.proofs.insert.Tie as tie
@@ -16,7 +17,7 @@ insert-spec =
     (λ c κs. search needs) (λ c. search needs)
     (λ c κs.
     let w = taken (c .before) in
-    (opened-fits _ _ (w .sound), (w .inner, w .whole ∙ opened-size _ _ (w .sound))))
+    (opened-fits _ _ (w .sound), (w .inner, place-long _ _ _ (w .sound) (w .whole))))
     (λ c. search needs) (λ c. search needs)
     (λ c.
     let done = c .before .before in

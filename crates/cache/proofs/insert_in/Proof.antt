@@ -5,8 +5,9 @@ use Prim.Native.Nat.{_+_, _≤_}
 use native.Mathlib.Omega.{arith}
 use lib.ListN.{length}
 use Rattle.bits.proofs.Bytes.{put-back}
+use Rattle.store.specs.Places.{placeFor}
 use Rattle.cache.specs.Calls.{insertedIn}
-use Rattle.cache.proofs.Checks.{may-holds, slot-fits}
+use Rattle.cache.proofs.Checks.{slot-fits}
 use borrow.Author.Needs.{needs}
 use Rattle.cache.proofs.insert_in.Statement.{statement}
 use Rattle.cache.proofs.insert_in.Tie as tie
@@ -19,7 +20,7 @@ fits c =
     omega (arith, c .place .ensures)
 
 returned : tie.Need-returns
-unfolding insertedIn
+unfolding insertedIn placeFor
 returned c =
     let bump = c .before .before .before .before .before .before in
     let set = bump .before .before .before .before in
@@ -29,11 +30,12 @@ returned c =
     ∙ rw (bump .bump .ensures, set .set-bit .ensures, set .before .page .ensures .0, place .place .ensures)
 
 pub insert-in-spec : {M : Type 1} → statement M
+unfolding placeFor
 insert-in-spec =
     tie.close
     (tie.spec
     (λ c κs. search needs)
-    (λ c κs. may-holds _ _ (c .before .before .before .before .pre .1 .0))
+    (λ c κs. c .before .before .before .before .pre .1 .0)
     (λ c κs. search needs) (λ c κs. search needs)
     (λ c. omega (arith, fits (c .before .before .before .before .before .before .before .before .before)))
     (λ c. search needs) (λ c. search needs)

@@ -23,10 +23,10 @@ judge-insert-spec =
     (λ c κs. search needs)
     (λ c.
     let may = c .before .before .before in
-    rw (good (may .before .before), eq-eqb _ _ (may .before .if1 .left), sym (may .may-hold .ensures) ∙ c .before .before .if2 .taken, sym (c .before .well-formed .ensures) ∙ c .if3 .taken))
+    rw (good (may .before .before), eq-eqb _ _ (may .before .if1 .left), sym (may .holds .ensures) ∙ c .before .before .if2 .taken, sym (c .before .well-formed .ensures) ∙ c .if3 .taken))
     (λ c.
     let may = c .before .before .before in
-    rw (good (may .before .before), eq-eqb _ _ (may .before .if1 .left), sym (may .may-hold .ensures) ∙ c .before .before .if2 .taken, sym (c .before .well-formed .ensures) ∙ c .if3 .left))
+    rw (good (may .before .before), eq-eqb _ _ (may .before .if1 .left), sym (may .holds .ensures) ∙ c .before .before .if2 .taken, sym (c .before .well-formed .ensures) ∙ c .if3 .left))
     (λ c.
     let may = c .before in
-    rw (good (may .before .before), eq-eqb _ _ (may .before .if1 .left), sym (may .may-hold .ensures) ∙ c .if2 .left)))
+    rw (good (may .before .before), eq-eqb _ _ (may .before .if1 .left), sym (may .holds .ensures) ∙ c .if2 .left)))

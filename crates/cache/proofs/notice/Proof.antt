@@ -7,7 +7,7 @@ use Rattle.store.specs.declared.Opened.the-variants.{Sound}
 use Rattle.store.specs.Layout.{opened}
 use Rattle.cache.proofs.Checks.{opened-fits}
 use Rattle.cache.specs.declared.Report.{Report}
-use Rattle.cache.specs.declared.NoticeAnswer.the-variants.{Noticed}
+use Rattle.cache.specs.declared.ReportAnswer.the-variants.{Reported}
 use borrow.Author.Needs.{needs}
 use Rattle.cache.proofs.notice.Statement.{statement}
 use Rattle.cache.proofs.notice.Tie as tie
@@ -24,6 +24,6 @@ notice-spec =
     (λ c. search needs) (λ c. search needs)
     (λ c.
     let done = c .before .before in
-    rw (good (done .before .before)) (ap (λ (p : Report × List ℕ). (Noticed (p .0), p .1)) (done .notice-in .ensures)))
+    rw (good (done .before .before)) (ap (λ (p : Report × List ℕ). (Reported (p .0), p .1)) (done .notice-in .ensures)))
     (λ c. search needs)
     (λ c. rw (sym (c .before .before .«open» .ensures) ∙ c .enum-told .given .1)))

@@ -1,7 +1,6 @@
 -- `unvriscol::uv_alu` meets its contract: number and value are the answer's.
 -- Assumes nothing.
-use mathlib.Core.Path.{refl, _∙_}
-use Rattle.alu.specs.Call.{aluAnswerNumber, aluAnswerValue}
+use Rattle.answer.specs.Answer.{valuedNumber, valuedValue}
 use Rattle.unvriscol.proofs.Passed.{both-passed}
 use borrow.Author.Needs.{needs}
 use Rattle.unvriscol.proofs.uv_alu.Statement.{statement}
@@ -14,5 +13,4 @@ uv-alu-spec =
     (λ c κs. search needs) (λ c κs. search needs) (λ c κs. search needs)
     (λ c.
     let called = c .before .before .alu-call in
-    both-passed aluAnswerNumber aluAnswerValue (called .result) (c .before .number .ensures) (c .value .ensures) refl
-    ∙ called .ensures))
+    both-passed valuedNumber valuedValue (called .result) (c .before .number .ensures) (c .value .ensures) (called .ensures)))

@@ -1,6 +1,6 @@
 -- `unvriscol::uv_generation` meets its contract: number and value are the answer's.
 -- Assumes nothing.
-use Rattle.cache.specs.Answers.{generationNumber, generationValue}
+use Rattle.answer.specs.Answer.{valuedNumber, valuedValue}
 use Rattle.unvriscol.proofs.Passed.{both-passed}
 use borrow.Author.Needs.{needs}
 use Rattle.unvriscol.proofs.uv_generation.Statement.{statement}
@@ -13,4 +13,4 @@ uv-generation-spec =
     (λ c κs. search needs) (λ c κs. search needs) (λ c κs. search needs)
     (λ c.
     let called = c .before .before .generation in
-    both-passed generationNumber generationValue (called .result) (c .before .number .ensures) (c .value .ensures) (called .ensures)))
+    both-passed valuedNumber valuedValue (called .result) (c .before .number .ensures) (c .value .ensures) (called .ensures)))

@@ -1,6 +1,6 @@
 -- `unvriscol::uv_make` meets its contract: the number is the answer's, and the bytes are as the call leaves them.
 -- Assumes nothing.
-use Rattle.cache.specs.Answers.{makeNumber}
+use Rattle.answer.specs.Answer.{answerNumber}
 use Rattle.unvriscol.proofs.Passed.{passed}
 use borrow.Author.Needs.{needs}
 use Rattle.unvriscol.proofs.uv_make.Statement.{statement}
@@ -13,4 +13,4 @@ uv-make-spec =
     (λ c κs. search needs) (λ c κs. search needs) (λ c. search needs)
     (λ c.
     let called = c .before .before .before .make in
-    passed makeNumber (called .result) (c .number .ensures) (called .ensures)))
+    passed answerNumber (called .result) (c .number .ensures) (called .ensures)))

@@ -1,7 +1,7 @@
 -- `unvriscol::uv_notice` meets its contract: number and value are the answer's, and the bytes are as the call leaves them.
 -- Assumes nothing.
 use mathlib.Core.Path.{refl}
-use Rattle.cache.specs.Answers.{noticeNumber, noticeValue}
+use Rattle.cache.specs.Answers.{reportNumber, reportValue}
 use Rattle.unvriscol.specs.Seen.{both}
 use Rattle.unvriscol.proofs.Passed.{both-passed, passed}
 use borrow.Author.Needs.{needs}
@@ -15,6 +15,6 @@ uv-notice-spec =
     (λ c κs. search needs) (λ c κs. search needs) (λ c κs. search needs) (λ c. search needs)
     (λ c.
     let called = c .before .before .before .before .notice in
-    passed (both noticeNumber noticeValue) (called .result)
-    (both-passed noticeNumber noticeValue (called .result) (c .before .number .ensures) (c .value .ensures) refl)
+    passed (both reportNumber reportValue) (called .result)
+    (both-passed reportNumber reportValue (called .result) (c .before .number .ensures) (c .value .ensures) refl)
     (called .ensures)))

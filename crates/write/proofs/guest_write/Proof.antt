@@ -8,7 +8,7 @@ use lib.ListN.{length}
 use Rattle.bits.specs.Bytes.{le, patch}
 use Rattle.cache.proofs.Checks.{opened-fits}
 use Rattle.cache.specs.declared.Report.{Report}
-use Rattle.write.specs.declared.WriteAnswer.the-variants.{Written}
+use Rattle.cache.specs.declared.ReportAnswer.the-variants.{Reported}
 use Rattle.write.proofs.Granted.{Granted, write-granted}
 use borrow.Author.Needs.{needs}
 use Rattle.write.proofs.guest_write.Statement.{statement}
@@ -37,6 +37,6 @@ guest-write-spec =
     let a = known .before .before .before .before .before .before .before .args in
     let memory = patch (a .memory .now) (a .address - known .before .g .given .0 .0 .base) (le (a .n) (a .value)) in
     rw (sym (known .before .before .before .judge-write .ensures) ∙ known .before .g .given .1, put .put-low .ensures)
-    (ap (λ (p : Report × List ℕ). (Written (p .0), p .1, memory)) (touch .touch .ensures)))
+    (ap (λ (p : Report × List ℕ). (Reported (p .0), p .1, memory)) (touch .touch .ensures)))
     (λ c. search needs)
     (λ c. rw (sym (c .before .before .before .judge-write .ensures) ∙ c .before .why .given .1)))

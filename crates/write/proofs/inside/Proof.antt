@@ -1,9 +1,12 @@
--- `write::inside` meets its contract: the two comparisons of the definition.
+-- `write::inside` meets its contract: where a comparison fails, the first byte or the last lies outside.
 -- Assumes nothing.
 use mathlib.Core.Path.{sym}
-use Prim.Native.Nat.{_+_, _*_}
+use Prim.Native.Nat.{_+_, _-_}
 use native.Mathlib.Omega.{arith}
-use borrow.Author.Tests.{lt-leb, le-leb}
+use Rattle.bits.proofs.Tests.{and-both, not-true}
+use Rattle.store.specs.Layout.{holds}
+use Rattle.store.proofs.Known.{holds-are, are-held}
+use Rattle.write.specs.Write.{inside}
 use borrow.Author.Needs.{needs}
 use Rattle.write.proofs.inside.Statement.{statement}
 use Rattle.write.proofs.inside.Tie as tie
@@ -12,11 +15,15 @@ pub inside-spec : {M : Type 1} → statement M
 inside-spec =
     tie.close
     (tie.spec
-    (λ c. rw (lt-leb _ _ (c .if1 .taken)))
+    (λ c.
+    let a = c .before .before .args in
+    sym (not-true (inside (a .g) (a .address) (a .n)) (λ h. omega (arith, holds-are (a .g) (a .address) (and-both (holds (a .g) (a .address)) (holds (a .g) (a .address + a .n - 1)) h .0)))))
     (λ c. search needs) (λ c. search needs) (λ c. search needs)
     (λ c.
     let a = c .before .before .before .before .before .args in
-    rw (le-leb _ _ (c .before .before .before .if1 .left)) (sym (lt-leb (a .address + a .n) (a .g .base + 4096 * a .g .pages) (omega arith))))
+    sym (not-true (inside (a .g) (a .address) (a .n)) (λ h. omega (arith, holds-are (a .g) (a .address + a .n - 1) (and-both (holds (a .g) (a .address)) (holds (a .g) (a .address + a .n - 1)) h .1)))))
     (λ c.
-    let a = c .before .before .before .before .before .args in
-    rw (le-leb _ _ (c .before .before .before .if1 .left)) (sym (le-leb (a .address + a .n) (a .g .base + 4096 * a .g .pages) (omega arith)))))
+    let start = c .before .before .before .before .before in
+    let a = start .args in
+    rw (are-held (a .g) (a .address) (c .before .before .before .if1 .left) (omega arith))
+    (sym (are-held (a .g) (a .address + a .n - 1) (omega arith) (omega arith)))))

@@ -23,7 +23,7 @@ judge-write-spec =
     (λ c. let b = opened-fits _ _ (good (c .before)) .bounds in omega arith)
     (λ c. rw (good (c .before .before), ne-eqb _ _ (c .if1 .taken)))
     (λ c κs. search needs)
-    (λ c κs. (opened-fits _ _ (good (c .before .before .before .before)) .bounds, size-small _ (sym (c .before .good-size .ensures) ∙ c .if2 .taken) .1))
+    (λ c κs. (opened-fits _ _ (good (c .before .before .before .before)) .bounds, size-small _ (sym (c .before .good-size .ensures) ∙ c .if2 .taken)))
     (λ c.
     let size = c .before .before .before in
     rw (good (size .before .before .before), eq-eqb _ _ (size .before .if1 .left), sym (size .good-size .ensures) ∙ c .before .before .if2 .taken, sym (c .before .inside .ensures) ∙ c .if3 .taken))

@@ -6,7 +6,8 @@ use Prim.Native.Nat.{ℕ, _/_}
 use native.Mathlib.Omega.{arith}
 use borrow.Author.Tests.{eq-eqb, ne-eqb}
 use Rattle.cache.specs.declared.Report.{Report}
-use Rattle.write.specs.Write.{summed, andThen}
+use Rattle.cache.specs.Calls.{summed}
+use Rattle.write.specs.Write.{andThen}
 use Rattle.write.proofs.Granted.{report-small}
 use borrow.Author.Needs.{needs}
 use Rattle.write.proofs.touch.Statement.{statement}

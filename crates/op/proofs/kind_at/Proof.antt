@@ -1,15 +1,14 @@
--- `alu::kind_at` meets its contract: each arm is told its number; the last is told that it is none of them, so it lies past the list.
+-- `op::kind_at` meets its contract: each arm is told its number; the last is told that it is none of them, so it lies past the list.
 -- Assumes nothing.
 use mathlib.Core.Path.{_≡_, sym, ap}
 use mathlib.Core.List.{map}
 use Prim.Native.Nat.{ℕ, zero, suc, _≤_, zero-le}
 use lib.Arith.{lt-of-le-ne}
 use lib.ListN.{List·getD-eq-default}
-use Rattle.op.specs.Kinds.{aluKinds}
-use Rattle.alu.specs.Call.{kindAt}
-use Rattle.alu.specs.declared.KindAt.the-variants.{Known, Unknown}
-use Rattle.alu.proofs.kind_at.Statement.{statement}
-use Rattle.alu.proofs.kind_at.Tie as tie
+use Rattle.op.specs.Kinds.{aluKinds, kindAt}
+use Rattle.op.specs.declared.KindAt.the-variants.{Known, Unknown}
+use Rattle.op.proofs.kind_at.Statement.{statement}
+use Rattle.op.proofs.kind_at.Tie as tie
 
 -- n is none of the numbers below k
 abbrev NoneOf : ℕ → ℕ → Type 0
