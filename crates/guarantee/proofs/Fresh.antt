@@ -13,9 +13,11 @@ use borrow.Author.Tests.{eqb-true, eqb-false}
 use Rattle.bits.specs.Bytes.{le, patch}
 use Rattle.bits.proofs.Bytes.{length-le, length-patch, getD-before, getD-behind}
 use Rattle.bits.proofs.Every.{decide}
+use Rattle.answer.specs.declared.Answer.the-variants.{Done}
 use Rattle.block.specs.Memory.{page}
 use Rattle.form.proofs.Page.{by-bytes}
 use Rattle.store.specs.Layout.{holds, slotOf, Bounded}
+use Rattle.store.specs.Places.{recordIn}
 use Rattle.store.specs.declared.Geometry.{Geometry}
 use Rattle.store.specs.declared.Opened.the-variants.{Sound}
 use Rattle.store.proofs.Known.{holds-are}
@@ -28,7 +30,6 @@ use Rattle.write.specs.Write.{writeJudged, written, writeCall}
 use Rattle.write.proofs.Granted.{Granted}
 use Rattle.history.specs.History.{Event, inserted, touched, flushed, Every, none-left, and-then, OfInserted, shown}
 use Rattle.history.proofs.Sentences.{no-some, shown-was}
-use Rattle.guarantee.specs.Held.{recordIn}
 use Rattle.guarantee.specs.Calls.{Use, lookup, insert, notice, flush, generation, write, Call, make, uses, Lent, done, run, lookedUp}
 use Rattle.guarantee.specs.Past.{Past, unmade, since, pageOf, ifAccepted, crossed, events, told, past, pastOf}
 use Rattle.guarantee.specs.Stands.{Stands, Follows}
@@ -97,7 +98,7 @@ cross-apart g h x y a r k = go (eqb (pageOf x) (pageOf y)) refl
 
 module _ (form : Former) where
   abbrev Held : Geometry → List ℕ → Event → Type 0
-  Held g m = OfInserted (λ a r. form g m a ≡ (0, r))
+  Held g m = OfInserted (λ a r. form g m a ≡ (Done, r))
 
   -- events whose insertions held what forms from this memory
   events-fresh : (g : Geometry) (h : List Event) (m : List ℕ) → Fresh form (since g h) m → (new : List Event) → Every (Held g m) new → Fresh form (since g (new ++ h)) m
@@ -105,10 +106,10 @@ module _ (form : Former) where
   events-fresh g h m i [] none-left a r e = i a r e
   events-fresh g h m i (inserted b rec ∷ new) (and-then f l) a r e = go (events-fresh g h m i new l a r) (eqb b a) refl (eqb (slotOf g b) (slotOf g a)) e
     where
-      go : (shown (slotOf g) pageOf (new ++ h) a ≡ some r → form g m a ≡ (0, r)) → (t : Bool) → eqb b a ≡ t → (u : Bool) → cond t (some rec) (cond u none (shown (slotOf g) pageOf (new ++ h) a)) ≡ some r → form g m a ≡ (0, r)
+      go : (shown (slotOf g) pageOf (new ++ h) a ≡ some r → form g m a ≡ (Done, r)) → (t : Bool) → eqb b a ≡ t → (u : Bool) → cond t (some rec) (cond u none (shown (slotOf g) pageOf (new ++ h) a)) ≡ some r → form g m a ≡ (Done, r)
       go ih true q u k =
           let same : rec ≡ r = cc in
-          ap (form g m) (sym (eqb-true b a q)) ∙ f ∙ ap (λ (x : List ℕ). (0, x)) same
+          ap (form g m) (sym (eqb-true b a q)) ∙ f ∙ ap (λ (x : List ℕ). (Done, x)) same
       go ih false q true k = no-some r k
       go ih false q false k = ih k
   events-fresh g h m i (touched p ∷ new) (and-then f l) a r e = events-fresh g h m i new l a r (touch-apart g (new ++ h) p a r e .1)
@@ -164,5 +165,5 @@ module _ (form : Former) where
 
       -- where a lookup's number is 0, what forms now is the record that the returned part shows
       pub never-stale : (calls : List Call) → Honest form p calls l → (g : Geometry) (h : List Event) → pastOf p calls l ≡ since g h
-          → (a : ℕ) → lookupNumber (lookupCall (run calls l .store) a) ≡ 0 → form g (run calls l .memory) a ≡ (0, recordIn g (lookedUp (run calls l) a))
+          → (a : ℕ) → lookupNumber (lookupCall (run calls l .store) a) ≡ 0 → form g (run calls l .memory) a ≡ (Done, recordIn g (lookedUp (run calls l) a))
       never-stale calls o g h is a e = subst (λ (z : Past). Fresh form z (run calls l .memory)) is (fresh calls o) a _ (hit-shown p l start calls g h is a e)

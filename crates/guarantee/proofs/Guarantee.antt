@@ -8,28 +8,26 @@ use Prim.Native.Nat.{ℕ, _+_, _-_, _%_, _^_}
 use native.Mathlib.Omega.{arith}
 use lib.ListN.{length}
 use Rattle.bits.proofs.Tests.{not-true}
-use Rattle.store.specs.Layout.{opened, slotOf}
+use Rattle.answer.specs.declared.Answer.the-variants.{Done}
+use Rattle.answer.specs.declared.Valued.the-variants.{Value}
+use Rattle.store.specs.Layout.{slotOf}
+use Rattle.store.specs.Places.{recordIn}
 use Rattle.store.specs.declared.Geometry.{Geometry}
 use Rattle.store.specs.declared.Opened.the-variants.{Sound}
 use Rattle.cache.specs.Answers.{lookupNumber}
 use Rattle.cache.specs.Calls.{makeJudged, made, makeCall, lookupCall, insertJudged, insertCall, noticeCall, flushCall, generationCall}
 use Rattle.cache.specs.Calls as cache
-use Rattle.cache.specs.declared.LookupAnswer.{LookupAnswer}
-use Rattle.cache.specs.declared.NoticeAnswer.the-variants.{Noticed}
-use Rattle.cache.specs.declared.FlushAnswer.the-variants.{Flushed}
-use Rattle.cache.specs.declared.GenerationAnswer.the-variants.{GenerationIs}
+use Rattle.cache.specs.declared.ReportAnswer.the-variants.{Reported}
 use Rattle.cache.specs.declared.Judged.{Judged}
 use Rattle.cache.specs.declared.Judged.the-variants.{Accepted, Rejected}
 use Rattle.write.specs.Write.{writeJudged, written, writeCall}
 use Rattle.write.specs.Write as writes
-use Rattle.write.specs.declared.WriteAnswer.the-variants.{Written}
 use Rattle.history.specs.History.{Event, insertions, shown, marked, Lives, Marked}
 use Rattle.history.proofs.Sentences.{shown-lives, lives-shown, marked-is, is-marked, shown-was}
-use Rattle.guarantee.specs.Held.{recordIn}
 use Rattle.guarantee.specs.Calls.{write, Call, Lent, run, lookedUp}
 use Rattle.guarantee.specs.Past.{Past, since, pageOf, ifAccepted, crossed, events, pastOf}
 use Rattle.guarantee.specs.Stands.{Stands, Follows}
-use Rattle.guarantee.specs.Answers.{lookupAnswered, partFor, report, reports, makeAnswered, insertAnswered, writeAnswered}
+use Rattle.guarantee.specs.Answers.{lookupAnswered, partFor, report, reports, answered, writeAnswered}
 use Rattle.guarantee.proofs.Simulation.{Possible, fits-accepted, notice-reports, write-reports}
 use Rattle.guarantee.proofs.Lookup.{lookup-is, lookup-returns}
 use Rattle.guarantee.proofs.Run.{write-own, kept}
@@ -43,7 +41,7 @@ write-is g h s y m a n v = go (writeJudged (Sound g) (length m) a n) refl
     accepted k e = ap (λ (z : Geometry). writes.touched z s a (a + n - 1) .0) e ∙ write-reports g h s y a (a + n - 1)
 
     go : (j : Judged) → writeJudged (Sound g) (length m) a n ≡ j → writeCall s m a n v .0 ≡ writeAnswered (writeJudged (Sound g) (length m) a n) (reports g h (events (length m) g (write a n v)))
-    go (Accepted k) e = rw (y .sound, e) (ap Written (accepted k (write-own g h s y (length m) a n k e .0)))
+    go (Accepted k) e = rw (y .sound, e) (ap Reported (accepted k (write-own g h s y (length m) a n k e .0)))
     go (Rejected why) e = rw (y .sound, e)
 
 module _ (p : Past) (l : Lent) (start : Follows p (l .store)) (calls : List Call) (g : Geometry) (h : List Event) (is : pastOf p calls l ≡ since g h) where
@@ -79,35 +77,35 @@ module _ (p : Past) (l : Lent) (start : Follows p (l .store)) (calls : List Call
   lives-hit a r e = shown-hit a r (lives-shown (slotOf g) pageOf h a r e)
 
   -- which calls are accepted, and what notices and writes report
-  pub make-answers : (e base pages : ℕ) → makeCall e base pages (run calls l .store) .0 ≡ makeAnswered (makeJudged e base pages (length (l .store)))
-  make-answers e base pages = go (makeJudged e base pages (length (run calls l .store))) ∙ ap (λ (n : ℕ). makeAnswered (makeJudged e base pages n)) (kept p l start calls .stored)
+  pub make-answers : (e base pages : ℕ) → makeCall e base pages (run calls l .store) .0 ≡ answered (makeJudged e base pages (length (l .store)))
+  make-answers e base pages = go (makeJudged e base pages (length (run calls l .store))) ∙ ap (λ (n : ℕ). answered (makeJudged e base pages n)) (kept p l start calls .stored)
     where
-      go : (j : Judged) → made j (run calls l .store) .0 ≡ makeAnswered j
+      go : (j : Judged) → made j (run calls l .store) .0 ≡ answered j
       go (Accepted k) = refl
       go (Rejected why) = refl
 
-  pub insert-answers : (a : ℕ) (rec : List ℕ) → insertCall (run calls l .store) a rec .0 ≡ insertAnswered (insertJudged (Sound g) a rec)
+  pub insert-answers : (a : ℕ) (rec : List ℕ) → insertCall (run calls l .store) a rec .0 ≡ answered (insertJudged (Sound g) a rec)
   insert-answers a rec = rw (stands .sound) (go (insertJudged (Sound g) a rec))
     where
-      go : (j : Judged) → cache.inserted j (run calls l .store) a rec .0 ≡ insertAnswered j
+      go : (j : Judged) → cache.inserted j (run calls l .store) a rec .0 ≡ answered j
       go (Accepted k) = refl
       go (Rejected why) = refl
 
-  pub notice-answers : (a : ℕ) → noticeCall (run calls l .store) a .0 ≡ Noticed (report g h (pageOf a))
-  notice-answers a = rw (stands .sound) (ap Noticed (notice-reports g h (run calls l .store) stands a))
+  pub notice-answers : (a : ℕ) → noticeCall (run calls l .store) a .0 ≡ Reported (report g h (pageOf a))
+  notice-answers a = rw (stands .sound) (ap Reported (notice-reports g h (run calls l .store) stands a))
 
   -- in document 01's words: every slot exactly when the page had an accepted insertion, and since came no notice or write in it, and no flush
-  pub examines-all : (a : ℕ) → Marked (slotOf g) pageOf h (pageOf a) → noticeCall (run calls l .store) a .0 ≡ Noticed (record { examined = 2 ^ g .e })
+  pub examines-all : (a : ℕ) → Marked (slotOf g) pageOf h (pageOf a) → noticeCall (run calls l .store) a .0 ≡ Reported (record { examined = 2 ^ g .e })
   examines-all a m = notice-answers a ∙ rw (is-marked (slotOf g) pageOf h (pageOf a) m)
 
-  pub examines-none : (a : ℕ) → (Marked (slotOf g) pageOf h (pageOf a) → ⊥) → noticeCall (run calls l .store) a .0 ≡ Noticed (record { examined = 0 })
+  pub examines-none : (a : ℕ) → (Marked (slotOf g) pageOf h (pageOf a) → ⊥) → noticeCall (run calls l .store) a .0 ≡ Reported (record { examined = 0 })
   examines-none a n = notice-answers a ∙ rw (not-true (marked (slotOf g) pageOf h (pageOf a)) (λ e. n (marked-is (slotOf g) pageOf h (pageOf a) e)))
 
-  pub flush-answers : flushCall (run calls l .store) .0 ≡ Flushed
+  pub flush-answers : flushCall (run calls l .store) .0 ≡ Done
   flush-answers = rw (stands .sound)
 
-  pub generation-answers : generationCall (run calls l .store) ≡ GenerationIs ((insertions h + 1) % 2 ^ 64)
-  generation-answers = rw (stands .sound) (ap GenerationIs (stands .age))
+  pub generation-answers : generationCall (run calls l .store) ≡ Value ((insertions h + 1) % 2 ^ 64)
+  generation-answers = rw (stands .sound) (ap Value (stands .age))
 
   pub write-answers : (a n v : ℕ) → writeCall (run calls l .store) (run calls l .memory) a n v .0 ≡ writeAnswered (writeJudged (Sound g) (length (l .memory)) a n) (reports g h (events (length (l .memory)) g (write a n v)))
   write-answers a n v =

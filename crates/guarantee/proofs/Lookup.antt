@@ -15,15 +15,14 @@ use Rattle.store.specs.Places.{emptyPlace}
 use Rattle.store.specs.declared.Geometry.{Geometry}
 use Rattle.store.proofs.Known.{holds-are, slot-lt}
 use Rattle.store.proofs.View.{placeIn}
-use Rattle.cache.specs.Calls.{mayHold, placeOf, lookupCall}
+use Rattle.cache.specs.Calls.{placeOf, lookupCall}
 use Rattle.cache.specs.Calls as cache
 use Rattle.cache.specs.declared.LookupAnswer.{LookupAnswer}
 use Rattle.cache.specs.declared.LookupAnswer.the-variants.{Hit, LookupRefused}
-use Rattle.cache.specs.declared.Refusal.the-variants.{NothingFound}
-use Rattle.cache.proofs.Checks.{opened-fits, may-holds}
+use Rattle.answer.specs.declared.Refusal.the-variants.{NothingFound}
+use Rattle.cache.proofs.Checks.{opened-fits}
 use Rattle.history.specs.History.{Event, shown}
 use Rattle.history.proofs.Places.{Place, empty, full, found, places, answers}
-use Rattle.guarantee.specs.Held.{placeFor}
 use Rattle.guarantee.specs.Past.{pageOf}
 use Rattle.guarantee.specs.Stands.{Stands}
 use Rattle.guarantee.specs.Answers.{lookupAnswered, partFor}
@@ -39,20 +38,20 @@ module _ (g : Geometry) (h : List Event) (s : List ℕ) (y : Stands g h s) (a : 
 
   -- the answer, by the address that the place holds
   answer : ℕ → LookupAnswer
-  answer b = cond (mayHold g a && eqb b a) (Hit (placeOf g a) (g .size)) (LookupRefused NothingFound)
+  answer b = cond (holds g a && eqb b a) (Hit (placeOf g a) (g .size)) (LookupRefused NothingFound)
 
-  nothing-empty : (t : Bool) → mayHold g a ≡ t → (t && eqb 0xFFFF_FFFF_FFFF_FFFF a) ≡ false
-  nothing-empty true e = ne-eqb 0xFFFF_FFFF_FFFF_FFFF a (λ q. omega (arith, holds-are g a (may-holds g a e), bounds .below))
+  nothing-empty : (t : Bool) → holds g a ≡ t → (t && eqb 0xFFFF_FFFF_FFFF_FFFF a) ≡ false
+  nothing-empty true e = ne-eqb 0xFFFF_FFFF_FFFF_FFFF a (λ q. omega (arith, holds-are g a e, bounds .below))
   nothing-empty false e = refl
 
   by-place : (k : Place) → Fitted g k → answer (doublewordAt (bytesOf g k) 0) ≡ lookupAnswered g a (found k a)
-  unfolding answer holds
-  by-place empty w = rw (empty-address (g .size), nothing-empty (mayHold g a) refl)
+  unfolding answer
+  by-place empty w = rw (empty-address (g .size), nothing-empty (holds g a) refl)
   by-place (full b r) w = rw (w .named) (go (eqb b a) refl)
     where
-      go : (t : Bool) → eqb b a ≡ t → cond (mayHold g a && t) (Hit (placeOf g a) (g .size)) (LookupRefused NothingFound) ≡ lookupAnswered g a (cond t (some r) none)
-      go true q = rw (ap (mayHold g) (sym (eqb-true b a q)) ∙ w .able)
-      go false q = none-shown (mayHold g a)
+      go : (t : Bool) → eqb b a ≡ t → cond (holds g a && t) (Hit (placeOf g a) (g .size)) (LookupRefused NothingFound) ≡ lookupAnswered g a (cond t (some r) none)
+      go true q = rw (ap (holds g) (sym (eqb-true b a q)) ∙ w .able)
+      go false q = none-shown (holds g a)
         where
           none-shown : (t : Bool) → cond (t && false) (Hit (placeOf g a) (g .size)) (LookupRefused NothingFound) ≡ LookupRefused NothingFound
           none-shown true = refl

@@ -16,15 +16,16 @@ use Rattle.store.specs.declared.Geometry.{Geometry}
 use Rattle.store.specs.declared.Opened.{Opened}
 use Rattle.store.specs.declared.Opened.the-variants.{Sound, NotAStore}
 use Rattle.store.proofs.Known.{bounds-are}
+use Rattle.store.proofs.Held.{place-long}
 use Rattle.store.proofs.View.{fitting-blank, fitting-flushed, header-long}
 use Rattle.cache.specs.Calls.{makeJudged, made, makeCall, insertJudged, insertedIn, insertCall, watched, evicted, noticedIn, noticed, noticeCall, flushCall}
 use Rattle.cache.specs.Calls as cache
-use Rattle.cache.specs.declared.Refusal.the-variants.{NoStore, BadGeometry}
+use Rattle.answer.specs.declared.Refusal.the-variants.{NoStore, BadGeometry}
 use Rattle.cache.specs.declared.Judged.{Judged}
 use Rattle.cache.specs.declared.Judged.the-variants.{Accepted, Rejected}
 use Rattle.cache.specs.declared.Report.{Report}
-use Rattle.cache.proofs.Checks.{opened-fits, may-holds, Taken, insert-taken}
-use Rattle.cache.proofs.View.{fitting-evicted}
+use Rattle.cache.proofs.Checks.{opened-fits, Taken, insert-taken}
+use Rattle.cache.proofs.View.{fitting-evicted, fitting-inserted}
 use Rattle.write.specs.Write.{writeJudged, andThen, written, writeCall}
 use Rattle.write.specs.Write as writes
 use Rattle.write.proofs.Granted.{Granted, write-granted}
@@ -32,7 +33,6 @@ use Rattle.history.specs.History.{Event, inserted}
 use Rattle.guarantee.specs.Calls.{Use, lookup, insert, notice, flush, generation, write, Call, make, uses, Lent, storing, done, run}
 use Rattle.guarantee.specs.Past.{Past, unmade, since, pageOf, ifAccepted, crossed, events, told, past, pastOf}
 use Rattle.guarantee.specs.Stands.{Stands, Follows}
-use Rattle.guarantee.proofs.Held.{place-long, fitting-inserted}
 use Rattle.guarantee.proofs.Simulation.{make-keeps, flush-keeps, insert-keeps, notice-keeps, write-keeps}
 
 -- no call changes the length of a buffer
@@ -51,7 +51,7 @@ length-insert : (s : List ℕ) (a : ℕ) (rec : List ℕ) → length (insertCall
 length-insert s a rec = go (insertJudged (opened s) a rec) refl
   where
     accepted : (g : Geometry) → Taken s a rec g → length (insertedIn g s a rec) ≡ length s
-    accepted g t = let f = opened-fits s g (t .sound) in fitting-inserted g s f a (may-holds g a (t .inner)) rec (place-long g rec s (t .sound) (t .whole)) .size ∙ sym (f .size)
+    accepted g t = let f = opened-fits s g (t .sound) in fitting-inserted g s f a (t .inner) rec (place-long g rec s (t .sound) (t .whole)) .size ∙ sym (f .size)
 
     go : (j : Judged) → insertJudged (opened s) a rec ≡ j → length (cache.inserted j s a rec .1) ≡ length s
     go (Accepted g) e = accepted g (insert-taken s a rec g e)

@@ -9,33 +9,32 @@ use native.Mathlib.Omega.{arith}
 use native.Mathlib.Nat.{mod-add-mod}
 use lib.Dec.{eqb}
 use lib.ListN.{length, take}
-use borrow.Author.Tests.{eq-eqb, ne-eqb, le-leb, lt-ltb}
+use borrow.Author.Tests.{eq-eqb, ne-eqb}
 use Rattle.bits.specs.Bytes.{doublewordAt}
 use Rattle.bits.proofs.Every.{decide}
 use Rattle.bits.proofs.Tests.{and-both, true-false}
 use Rattle.store.specs.Layout.{header, inBounds, geometry, opened, holds, slotOf, generationOf, Bounded, Fitting}
-use Rattle.store.specs.Places.{pageBit, emptyPlace, emptied, blank}
+use Rattle.store.specs.Places.{pageBit, emptyPlace, placeFor, recordIn, emptied, blank}
 use Rattle.store.specs.declared.Geometry.{Geometry}
 use Rattle.store.specs.declared.Opened.{Opened}
 use Rattle.store.specs.declared.Opened.the-variants.{Sound}
-use Rattle.store.proofs.Known.{holds-are, page-lt, slot-lt}
+use Rattle.store.proofs.Known.{holds-are, are-held, page-lt, slot-lt}
+use Rattle.store.proofs.Held.{place-long, place-named, record-back}
 use Rattle.store.proofs.Places.{length-empty}
 use Rattle.store.proofs.View.{placeIn, opened-flushed, generation-flushed, bits-flushed, place-flushed, opened-made, generation-made, bits-made, place-made}
-use Rattle.cache.specs.Calls.{insertJudged, watched, evicted, noticedIn, insertedIn}
+use Rattle.cache.specs.Calls.{insertJudged, watched, evicted, noticedIn, summed, insertedIn}
 use Rattle.cache.specs.declared.Judged.the-variants.{Accepted}
 use Rattle.cache.specs.declared.Report.{Report}
-use Rattle.cache.proofs.Checks.{opened-fits, may-holds, insert-taken}
-use Rattle.cache.proofs.View.{opened-evicted, generation-evicted, bits-evicted, place-evicted}
-use Rattle.write.specs.Write.{summed, andThen}
+use Rattle.cache.proofs.Checks.{opened-fits, insert-taken}
+use Rattle.cache.proofs.View.{opened-evicted, generation-evicted, bits-evicted, place-evicted, opened-inserted, generation-inserted, bits-inserted, place-inserted}
+use Rattle.write.specs.Write.{andThen}
 use Rattle.write.specs.Write as writes
 use Rattle.history.specs.History.{Event, inserted, touched, flushed, Every, none-left, and-then, OfInserted, insertions, shown, marked}
 use Rattle.history.proofs.Sentences.{no-some}
 use Rattle.history.proofs.Places.{Place, empty, full, swept, places, Was, was, full-shown, shown-full, empty-none}
-use Rattle.guarantee.specs.Held.{placeFor, recordIn}
 use Rattle.guarantee.specs.Past.{pageOf, crossed}
 use Rattle.guarantee.specs.Stands.{Stands}
 use Rattle.guarantee.specs.Answers.{report, reports}
-use Rattle.guarantee.proofs.Held.{place-long, place-named, record-back, opened-inserted, generation-inserted, bits-inserted, place-inserted}
 
 -- an accepted insertion: its address lies in memory, and what the place holds for the record is as long as a place, names the address and shows the record
 pub record Fits (g : Geometry) (a : ℕ) (r : List ℕ) : Type 0 where
@@ -47,7 +46,7 @@ pub record Fits (g : Geometry) (a : ℕ) (r : List ℕ) : Type 0 where
 pub fits-accepted : (g : Geometry) (s : List ℕ) → opened s ≡ Sound g → (a : ℕ) (r : List ℕ) → insertJudged (Sound g) a r ≡ Accepted g → Fits g a r
 fits-accepted g s o a r e =
     let t = insert-taken s a r g (ap (λ (z : Opened). insertJudged z a r) o ∙ e) in
-    record { able = may-holds g a (t .inner); long = place-long g r s o (t .whole); named = place-named g r a (t .formed); back = record-back g r a (t .formed) }
+    record { able = t .inner; long = place-long g r s o (t .whole); named = place-named g r a (t .formed); back = record-back g r a (t .formed) }
 
 -- no refused insertion
 abbrev pub Possible : Geometry → Event → Type 0
@@ -109,10 +108,6 @@ scanned g p (full a r) b w = rw (w .named, w .long) (go (eqb (a / 4096) p))
     go true = refl
     go false = refl
 
-within : (g : Geometry) (a : ℕ) → g .base ≤ a → a < g .base + 4096 * g .pages → holds g a ≡ true
-unfolding holds
-within g a l u = rw (le-leb (g .base) a l) (lt-ltb a (g .base + 4096 * g .pages) u)
-
 module _ (g : Geometry) (h : List Event) (s : List ℕ) (y : Stands g h s) where
   fits : Fitting g s
   fits = opened-fits s g (y .sound)
@@ -164,7 +159,7 @@ module _ (g : Geometry) (h : List Event) (s : List ℕ) (y : Stands g h s) where
       inside = holds-are g b (fits-accepted g s (y .sound) b r e .able)
 
       apart : pageOf b ≡ pageOf a → ⊥
-      apart q = true-false (within g a (omega (arith, inside, fits .bounds .aligned)) (omega (arith, inside, fits .bounds .aligned))) o
+      apart q = true-false (are-held g a (omega (arith, inside, fits .bounds .aligned)) (omega (arith, inside, fits .bounds .aligned))) o
   outside a o (touched p ∷ k) (and-then e l) = rw (outside a o k l) (nothing (not (eqb p (pageOf a))))
     where
       nothing : (t : Bool) → (t && false) ≡ false

@@ -8,13 +8,12 @@ use lib.ListN.{length}
 use Rattle.store.specs.Layout.{slotOf}
 use Rattle.store.specs.declared.Geometry.{Geometry}
 use Rattle.store.specs.declared.Opened.the-variants.{Sound}
-use Rattle.cache.specs.Answers.{noticeValue}
+use Rattle.cache.specs.Answers.{reportValue}
 use Rattle.cache.specs.Calls.{makeJudged, insertJudged, noticeCall}
 use Rattle.cache.specs.declared.Judged.{Judged}
 use Rattle.cache.specs.declared.Judged.the-variants.{Accepted, Rejected}
-use Rattle.cache.specs.declared.NoticeAnswer.the-variants.{Noticed}
 use Rattle.cache.specs.declared.Report.{Report}
-use Rattle.write.specs.Write.{writeValue, writeJudged}
+use Rattle.write.specs.Write.{writeJudged}
 use Rattle.history.specs.History.{Event, inserted, touched, flushed, insertions, examined, total}
 use Rattle.history.proofs.Bound.{bound}
 use Rattle.guarantee.specs.Calls.{Use, lookup, insert, notice, flush, generation, write, Call, make, uses, Lent, done, run}
@@ -48,9 +47,9 @@ reported g h l y (insert a rec) = go (insertJudged (Sound g) a rec) refl
 reported g h l y (notice a) = rw (y .sound) (ap (λ (r : Report). r .examined) (notice-reports g h (l .store) y a ∙ sym (alone (report g h (pageOf a)))))
 reported g h l y flush = refl
 reported g h l y generation = refl
-reported g h l y (write a n v) = ap writeValue (write-is g h (l .store) y (l .memory) a n v) ∙ go (writeJudged (Sound g) (length (l .memory)) a n) refl
+reported g h l y (write a n v) = ap reportValue (write-is g h (l .store) y (l .memory) a n v) ∙ go (writeJudged (Sound g) (length (l .memory)) a n) refl
   where
-    go : (j : Judged) → writeJudged (Sound g) (length (l .memory)) a n ≡ j → writeValue (writeAnswered (writeJudged (Sound g) (length (l .memory)) a n) (reports g h (events (length (l .memory)) g (write a n v)))) ≡ reports g h (events (length (l .memory)) g (write a n v)) .examined
+    go : (j : Judged) → writeJudged (Sound g) (length (l .memory)) a n ≡ j → reportValue (writeAnswered (writeJudged (Sound g) (length (l .memory)) a n) (reports g h (events (length (l .memory)) g (write a n v)))) ≡ reports g h (events (length (l .memory)) g (write a n v)) .examined
     go (Accepted k) e = rw e
     go (Rejected why) e = rw e
 

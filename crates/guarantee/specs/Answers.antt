@@ -4,24 +4,21 @@ use Prim.Native.Nat.{ℕ, _+_, _^_}
 use mathlib.Core.List.{List, [], _∷_, _++_}
 use mathlib.Core.Option.{Option, none, some}
 use lib.ListN.{length}
+use Rattle.answer.specs.declared.Refusal.the-variants.{NothingFound}
+use Rattle.answer.specs.declared.Answer.{Answer}
+use Rattle.answer.specs.declared.Answer.the-variants.{Done, Refused}
 use Rattle.store.specs.Layout.{slotOf}
+use Rattle.store.specs.Places.{placeFor}
 use Rattle.store.specs.declared.Geometry.{Geometry}
-use Rattle.cache.specs.Calls.{makeJudged, placeOf}
-use Rattle.cache.specs.declared.Refusal.the-variants.{NothingFound}
-use Rattle.cache.specs.declared.MakeAnswer.{MakeAnswer}
-use Rattle.cache.specs.declared.MakeAnswer.the-variants.{Made, MakeRefused}
+use Rattle.cache.specs.Calls.{makeJudged, placeOf, summed}
 use Rattle.cache.specs.declared.LookupAnswer.{LookupAnswer}
 use Rattle.cache.specs.declared.LookupAnswer.the-variants.{Hit, LookupRefused}
-use Rattle.cache.specs.declared.InsertAnswer.{InsertAnswer}
-use Rattle.cache.specs.declared.InsertAnswer.the-variants.{Inserted, InsertRefused}
 use Rattle.cache.specs.declared.Judged.{Judged}
 use Rattle.cache.specs.declared.Judged.the-variants.{Accepted, Rejected}
 use Rattle.cache.specs.declared.Report.{Report}
-use Rattle.write.specs.Write.{summed}
-use Rattle.write.specs.declared.WriteAnswer.{WriteAnswer}
-use Rattle.write.specs.declared.WriteAnswer.the-variants.{Written, WriteRefused}
+use Rattle.cache.specs.declared.ReportAnswer.{ReportAnswer}
+use Rattle.cache.specs.declared.ReportAnswer.the-variants.{Reported, NotReported}
 use Rattle.history.specs.History.{Event, inserted, touched, flushed, examined, total}
-use Rattle.guarantee.specs.Held.{placeFor}
 use Rattle.guarantee.specs.Calls.{Call, make, uses, Lent, done, run}
 use Rattle.guarantee.specs.Past.{Past, unmade, since, pageOf, ifAccepted}
 
@@ -46,17 +43,15 @@ reports g h (inserted a rec ∷ new) = reports g h new
 reports g h (touched p ∷ new) = summed (reports g h new) (report g (new ++ h) p)
 reports g h (flushed ∷ new) = reports g h new
 
-abbrev pub makeAnswered : Judged → MakeAnswer
-makeAnswered (Accepted g) = Made
-makeAnswered (Rejected why) = MakeRefused why
+-- Make and insertions, by what their judge says
+abbrev pub answered : Judged → Answer
+answered (Accepted g) = Done
+answered (Rejected why) = Refused why
 
-abbrev pub insertAnswered : Judged → InsertAnswer
-insertAnswered (Accepted g) = Inserted
-insertAnswered (Rejected why) = InsertRefused why
-
-abbrev pub writeAnswered : Judged → Report → WriteAnswer
-writeAnswered (Accepted g) r = Written r
-writeAnswered (Rejected why) r = WriteRefused why
+-- and a guest write
+abbrev pub writeAnswered : Judged → Report → ReportAnswer
+writeAnswered (Accepted g) r = Reported r
+writeAnswered (Rejected why) r = NotReported why
 
 -- the slots that a past's calls have reported
 abbrev pub slots : Past → ℕ

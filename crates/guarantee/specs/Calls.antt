@@ -2,10 +2,10 @@
 -- Assumes nothing.
 use Prim.Native.Nat.{ℕ}
 use mathlib.Core.List.{List, [], _∷_}
-use Rattle.cache.specs.Answers.{noticeValue}
+use Rattle.cache.specs.Answers.{reportValue}
 use Rattle.cache.specs.Calls.{makeCall, lookupCall, shown, insertCall, noticeCall, flushCall}
-use Rattle.write.specs.Write.{writeValue, writeCall}
-use Rattle.write.specs.declared.WriteAnswer.{WriteAnswer}
+use Rattle.cache.specs.declared.ReportAnswer.{ReportAnswer}
+use Rattle.write.specs.Write.{writeCall}
 
 -- the calls that use a store
 pub data Use : Type 0 where
@@ -34,14 +34,14 @@ pub record Lent : Type 0 where
 abbrev pub storing : Lent → List ℕ → Lent
 storing l s = record { store = s; memory = l .memory }
 
-abbrev pub wrote : WriteAnswer × List ℕ × List ℕ → ℕ × Lent
-wrote r = (writeValue (r .0), record { store = r .1; memory = r .2 })
+abbrev pub wrote : ReportAnswer × List ℕ × List ℕ → ℕ × Lent
+wrote r = (reportValue (r .0), record { store = r .1; memory = r .2 })
 
 -- the slots that a call reports, and both buffers after it
 unfoldable pub done : Use → Lent → ℕ × Lent
 done (lookup a) l = (0, l)
 done (insert a rec) l = (0, storing l (insertCall (l .store) a rec .1))
-done (notice a) l = (noticeValue (noticeCall (l .store) a .0), storing l (noticeCall (l .store) a .1))
+done (notice a) l = (reportValue (noticeCall (l .store) a .0), storing l (noticeCall (l .store) a .1))
 done flush l = (0, storing l (flushCall (l .store) .1))
 done generation l = (0, l)
 done (write a n v) l = wrote (writeCall (l .store) (l .memory) a n v)

@@ -1,7 +1,6 @@
 -- What any history of calls guarantees: the calls, what they tell of a store's past, and what an insertion must hold.
 pub mod Calls
 pub mod Past
-pub mod Held
 pub mod Stands
 pub mod Answers
 pub mod Honest

@@ -7,13 +7,12 @@ use mathlib.Core.List.{List}
 use mathlib.Core.Option.{none, some}
 use Rattle.bits.specs.Bytes.{part}
 use Rattle.store.specs.Layout.{opened, slotOf, placeAt, generationOf}
-use Rattle.store.specs.Places.{pageBit, emptyPlace}
+use Rattle.store.specs.Places.{pageBit, emptyPlace, placeFor}
 use Rattle.store.specs.declared.Geometry.{Geometry}
 use Rattle.store.specs.declared.Opened.the-variants.{Sound}
 use Rattle.cache.specs.Calls.{placeOf, insertJudged}
 use Rattle.cache.specs.declared.Judged.the-variants.{Accepted}
 use Rattle.history.specs.History.{Event, insertions, Every, OfInserted, shown, marked}
-use Rattle.guarantee.specs.Held.{placeFor}
 use Rattle.guarantee.specs.Past.{Past, unmade, since, pageOf}
 
 pub record Stands (g : Geometry) (h : List Event) (s : List ℕ) : Type 0 where
