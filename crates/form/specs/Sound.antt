@@ -8,7 +8,7 @@ use Rattle.op.specs.Reading.{Reading}
 use Rattle.op.specs.Record.{opFields}
 use Rattle.op.specs.declared.Op.{Op}
 use Rattle.op.specs.declared.Decoded.the-variants.{Some}
-use Rattle.op.proofs.Proper.{Proper}
+use Rattle.op.specs.Proper.{Proper}
 
 -- it gives proper ops, and never a Fallback
 pub record Sound (r : Reading) : Type 0 where
