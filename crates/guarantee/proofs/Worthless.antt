@@ -13,7 +13,7 @@ use Rattle.op.specs.declared.AluKind.the-variants.{Add}
 use Rattle.op.specs.WellFormed.{limits, opWellFormed}
 use Rattle.block.specs.Record.{insn, opRecords, byteLen, blockRecord}
 use Rattle.block.specs.WellFormed.{allZero, placed, opsWellFormed, wellFormed}
-use Rattle.store.specs.Layout.{geometry}
+use Rattle.store.specs.Layout.{geometry, holds}
 use Rattle.history.specs.History.{inserted, touched, insertions, shown, marked}
 use Rattle.history.proofs.Sentences.{no-some}
 use Rattle.guarantee.specs.Calls.{insert, notice, make, uses}
@@ -35,15 +35,15 @@ unfolding past
 new = refl
 
 one : past 4200 8192 unmade (uses (insert 0 (block 1)) ∷ make 2 0 2 ∷ []) ≡ since (geometry 2 0 2) (inserted 0 (block 1) ∷ [])
-unfolding past events block blockRecord opRecords byteLen wellFormed opsWellFormed placed opWellFormed limits allZero le
+unfolding past events block blockRecord opRecords byteLen wellFormed opsWellFormed placed opWellFormed limits allZero le holds
 one = refl
 
 two : past 4200 8192 unmade (uses (insert 0 (block 2)) ∷ uses (insert 0 (block 1)) ∷ make 2 0 2 ∷ []) ≡ since (geometry 2 0 2) (inserted 0 (block 2) ∷ inserted 0 (block 1) ∷ [])
-unfolding past events block blockRecord opRecords byteLen wellFormed opsWellFormed placed opWellFormed limits allZero le
+unfolding past events block blockRecord opRecords byteLen wellFormed opsWellFormed placed opWellFormed limits allZero le holds
 two = refl
 
 noticed : past 4200 8192 unmade (uses (notice 4096) ∷ uses (insert 0 (block 1)) ∷ make 2 0 2 ∷ []) ≡ since (geometry 2 0 2) (touched 1 ∷ inserted 0 (block 1) ∷ [])
-unfolding past events block blockRecord opRecords byteLen wellFormed opsWellFormed placed opWellFormed limits allZero le
+unfolding past events block blockRecord opRecords byteLen wellFormed opsWellFormed placed opWellFormed limits allZero le holds
 noticed = refl
 
 pub keeps-nothing : ShowsRight keepsNothing → ⊥
