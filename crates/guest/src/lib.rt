@@ -1,36 +1,54 @@
 // Guest memory as a struct that borrows its bytes beside their base, with thin readers over it. (system_bus.rs, what `decode_block` takes of it)
 // Nothing else takes the struct: each reader takes it apart, and the work is done on the slice and the base.
 ghost use mathlib.Core.Path.{_≡_};
-ghost use Rattle.guest.specs.Guest.{readHalfword};
+ghost use Rattle.guest.specs.Guest.{spans, readHalfword, readWord};
 
 pub struct GuestMemory<'a> {
     pub bytes: &'a [u8],
     pub base: u64,
 }
 
-// What reading a halfword finds.
+// What a reader finds: the number at an address, or that not all its bytes lie in memory.
 pub enum GuestRead {
-    Halfword(u16),
+    Read(u32),
     OutOfMemory,
 }
 
-// The work, on the slice and the base. Odd addresses are read too.
+// Whether so many bytes from an address on lie in memory.
+fn spans(size: u64, base: u64, address: u64, count: u64) -> bool
+    ensures { λ r. ⌜ r ≡ spans size base address count ⌝ }
+{
+    if address < base {
+        return false;
+    }
+    if size < count {
+        return false;
+    }
+    if size - count < address - base {
+        return false;
+    }
+    true
+}
+
+// The readers' work, on the slice and the base. Odd addresses are read too.
 pub fn halfword_of(memory: &[u8], base: u64, address: u64) -> GuestRead
     ensures { λ r. ⌜ r ≡ readHalfword (now (memory .entry)) base address ⌝ }
 {
-    if address < base {
-        return GuestRead::OutOfMemory;
+    if spans(memory.len() as u64, base, address, 2) {
+        let at = (address - base) as usize;
+        return GuestRead::Read(bits::halfword_at(memory, at) as u32);
     }
-    let off = address - base;
-    let len = memory.len() as u64;
-    if len <= off {
-        return GuestRead::OutOfMemory;
+    GuestRead::OutOfMemory
+}
+
+pub fn word_of(memory: &[u8], base: u64, address: u64) -> GuestRead
+    ensures { λ r. ⌜ r ≡ readWord (now (memory .entry)) base address ⌝ }
+{
+    if spans(memory.len() as u64, base, address, 4) {
+        let at = (address - base) as usize;
+        return GuestRead::Read(bits::word_at(memory, at));
     }
-    if len - off < 2 {
-        return GuestRead::OutOfMemory;
-    }
-    let at = off as usize;
-    GuestRead::Halfword(bits::halfword_at(memory, at))
+    GuestRead::OutOfMemory
 }
 
 pub fn view<'a>(bytes: &'a [u8], base: u64) -> GuestMemory<'a>
@@ -45,9 +63,8 @@ pub fn halfword<'a>(memory: GuestMemory<'a>, address: u64) -> GuestRead
     halfword_of(memory.bytes, memory.base, address)
 }
 
-// Plain parameters, so whoever calls this one needs no walk by hand.
-pub fn halfword_at(memory: &[u8], base: u64, address: u64) -> GuestRead
-    ensures { λ r. ⌜ r ≡ readHalfword (now (memory .entry)) base address ⌝ }
+pub fn word<'a>(memory: GuestMemory<'a>, address: u64) -> GuestRead
+    ensures { λ r. ⌜ r ≡ readWord (now (memory .entry .bytes)) (memory .entry .base) address ⌝ }
 {
-    halfword(view(memory, base), address)
+    word_of(memory.bytes, memory.base, address)
 }
