@@ -1,7 +1,10 @@
 // Guest memory as a struct that borrows its bytes beside their base, with thin readers over it. (system_bus.rs, what `decode_block` takes of it)
 // Nothing else takes the struct: each reader takes it apart, and the work is done on the slice and the base.
 ghost use mathlib.Core.Path.{_≡_};
+ghost use Rattle.form.specs.Forming.{rust};
+ghost use Rattle.form.specs.Call.{formNumber, formCall};
 ghost use Rattle.guest.specs.Guest.{spans, readHalfword, readWord};
+use form::FormAnswer;
 
 pub struct GuestMemory<'a> {
     pub bytes: &'a [u8],
@@ -67,4 +70,11 @@ pub fn word<'a>(memory: GuestMemory<'a>, address: u64) -> GuestRead
     ensures { λ r. ⌜ r ≡ readWord (now (memory .entry .bytes)) (memory .entry .base) address ⌝ }
 {
     word_of(memory.bytes, memory.base, address)
+}
+
+// Forms the block at an address into the lent record, as `form::form` does.
+pub fn decode_block<'a>(memory: GuestMemory<'a>, address: u64, lent: &mut [u8]) -> FormAnswer
+    ensures { λ r. ⌜ (formNumber r, now (lent .exit)) ≡ formCall rust (now (memory .entry .bytes)) (memory .entry .base) address (now (lent .entry)) ⌝ }
+{
+    form::form(memory.bytes, memory.base, address, lent)
 }
