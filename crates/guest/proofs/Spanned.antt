@@ -7,5 +7,9 @@ use borrow.Author.Tests.{leb-true}
 use Rattle.bits.proofs.Tests.{and-both}
 use Rattle.guest.specs.Guest.{spans}
 
-pub spanned : (size base address count : ℕ) → spans size base address count ≡ true → (base ≤ address) × (address + count ≤ base + size)
-spanned size base address count e = let h = and-both _ _ e in (leb-true _ _ (h .0), leb-true _ _ (h .1))
+pub record Spanned (size base address count : ℕ) : Type 0 where
+  pub above : base ≤ address
+  pub within : address + count ≤ base + size
+
+pub spanned : {size base address count : ℕ} → spans size base address count ≡ true → Spanned size base address count
+spanned e = let h = and-both _ _ e in record { above = leb-true _ _ (h .0); within = leb-true _ _ (h .1) }

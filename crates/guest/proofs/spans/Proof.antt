@@ -3,7 +3,6 @@
 use Prim.Native.Nat.{_+_}
 use native.Mathlib.Omega.{arith}
 use borrow.Author.Tests.{le-leb, lt-leb}
-use borrow.Author.Needs.{needs}
 use Rattle.guest.proofs.spans.Statement.{statement}
 use Rattle.guest.proofs.spans.Tie as tie
 
