@@ -67,7 +67,7 @@ abbrev stayed : Stays (reader.ended .signature .params) (reader.ended .kept)
 stayed = (stay-none B yes, (stay-none (λ _. u64) yes, tt))
 
 module _ (read : List ℕ → ℕ → ℕ → GuestRead) {M : Type 1} (𝓤 : URA M) (H : Heap 𝓤) (A : Atoms 𝓤) where
-  -- what a reader says, and its callee
+  -- what a reader promises, and what its callee does
   abbrev pub saying : Clauses 𝓤 reader.ended
   saying κs x = record { ghost = Unit {0}; requires = λ g. emp 𝓤; ensures = λ g r e. fact 𝓤 (r ≡ read (now (x .0 .bytes)) (x .0 .base) (x .1 .0)) }
 
@@ -99,11 +99,11 @@ module _ (read : List ℕ → ℕ → ℕ → GuestRead) {M : Type 1} (𝓤 : UR
 
     -- what the view owns gives what the callee asks, and is kept
     asked : d .base < 2 ^ 64 → a < 2 ^ 64 → ent 𝓤 (onEntry 𝓤 H A reader.signature (κ, tt) (q, tt) (d, (a, tt)) (mach ∷ [], (vint w64 a ∷ [], tt))) (sep 𝓤 (Of .pre to) (sem 𝓤 H A (View α d)))
-    asked fits gi =
+    asked fits ga =
         qed W ((‵ (flft κ q) ⊛ ‵ ftrue) ∷ ‵ (owns (B (κ, tt) ∷ u64 ∷ []) (d, (a, tt)) (mach ∷ [], (vint w64 a ∷ [], tt))) ∷ []) ∵
         move ! (1 ∷ []) $ fsplit ! $ move ! (1 ∷ []) $ drop ! $ use1 W (‵ (Bytes α d) ⊛ ‵ (View α d)) (apart α d 𝓤 H A W) $ split ! $
         -- [what the bytes own; what the view owns; the token]
-        nothing ! $ owned ! u64 (Is u64) (uint-makes 𝓤 H A W w64) a _ (refl, gi) $ fjoin ! $ owned ! u64 (Is u64) (uint-makes 𝓤 H A W w64) (d .base) _ (refl, fits) $ fjoin ! $ move ! (1 ∷ 0 ∷ []) $ fjoin ! $
+        nothing ! $ owned ! u64 (Is u64) (uint-makes 𝓤 H A W w64) a _ (refl, ga) $ fjoin ! $ owned ! u64 (Is u64) (uint-makes 𝓤 H A W w64) (d .base) _ (refl, fits) $ fjoin ! $ move ! (1 ∷ 0 ∷ []) $ fjoin ! $
         move ! (2 ∷ 0 ∷ []) $ use2 W (raw (Of .pre to)) (qed W ((‵ (flft κ q) ⊛ ‵ ftrue) ∷ ‵ (owns (ShrSlice (named 0) κ u8 ∷ u64 ∷ u64 ∷ []) (d .bytes, (d .base, (a, tt))) passed) ∷ []) ∵ join ! $ frame ! $ done !) $ frame ! $ done !
 
     -- of the callee's `ensured`, the clause alone: it has no `&mut`, so what is said of last values is dropped
@@ -111,19 +111,19 @@ module _ (read : List ℕ → ℕ → ℕ → GuestRead) {M : Type 1} (𝓤 : UR
     said r = exE 𝓤 _ (λ ws. snd∗ 𝓤 (sem 𝓤 H A (lasts step.ended (κ, tt) (d .bytes, (d .base, (a, tt))) ws)) (fact 𝓤 (r ≡ found)))
 
     exits : (r : GuestRead) (u : Val) → a < 2 ^ 64 → r ≡ found → ent 𝓤 (⋆ 𝓤 H A (‵ (S.the-row .own r (u ∷ [])) ∷ (‵ (flft κ q) ⊛ ‵ ftrue) ∷ ‵ (View α d) ∷ [])) (Post u)
-    exits r u gi e =
+    exits r u ga e =
         qed W (‵ (S.the-row .own r (u ∷ [])) ∷ (‵ (flft κ q) ⊛ ‵ ftrue) ∷ ‵ (View α d) ∷ []) ∵
         suffices ! _ (ends-at 𝓤 H A reader.ended stayed saying W (((κ, tt), (q, tt), tt, (d, (a, tt)), (mach ∷ [], (vint w64 a ∷ [], tt))), tt) u r (tt, (tt, tt)) (tt, (tt, tt))) $ says ! e $
-        move ! (1 ∷ []) $ frame ! $ nothing ! $ owned ! u64 (Is u64) (uint-makes 𝓤 H A W w64) a _ (refl, gi) $ fjoin ! $ move ! (2 ∷ 0 ∷ []) $ fjoin ! $ frame ! $ done !
+        move ! (1 ∷ []) $ frame ! $ nothing ! $ owned ! u64 (Is u64) (uint-makes 𝓤 H A W w64) a _ (refl, ga) $ fjoin ! $ move ! (2 ∷ 0 ∷ []) $ fjoin ! $ frame ! $ done !
 
     module _ (C : Calls 𝓤 H) (Λ : Loops 𝓤 H) (fm : FmC 𝓤 H (W .laws) C) (callee : Name) (known : Triple 𝓤 (C callee) Of) where
       walk : Holds (hasTy (T′.mir (named 0)) mach) × WT mach → a < 2 ^ 64 → ent 𝓤 (onEntry 𝓤 H A reader.signature (κ, tt) (q, tt) (d, (a, tt)) (mach ∷ [], (vint w64 a ∷ [], tt))) (WpFn 𝓤 H C Λ (reads callee) (mach ∷ vint w64 a ∷ []) Post)
-      walk wt gi =
+      walk wt ga =
           qed W (raw (onEntry 𝓤 H A reader.signature (κ, tt) (q, tt) (d, (a, tt)) (mach ∷ [], (vint w64 a ∷ [], tt))) ∷ []) ∵ enter ! C Λ (reads callee) (mach ∷ vint w64 a ∷ []) _ $
-          alloc1 ! (λ l₀. alloc1 ! (λ l₁. alloc1 ! (λ l₂. alloc1 ! (λ l₃. alloc1 ! (λ l₄. alloc0 ! $ params1 ! $ pass1 ! (init ! 6 refl wt) $ pass1 ! (init ! 4 refl (tt, record { fits = gi })) $ pass0 ! $
+          alloc1 ! (λ l₀. alloc1 ! (λ l₁. alloc1 ! (λ l₂. alloc1 ! (λ l₃. alloc1 ! (λ l₄. alloc0 ! $ params1 ! $ pass1 ! (init ! 6 refl wt) $ pass1 ! (init ! 4 refl (tt, record { fits = ga })) $ pass0 ! $
           assigns ! (of-opd ! (load ! (from ! (fld ! refl (stop !))) (look-in ! 6 (sub ! 0 refl (whole !))))) (from ! (stop !)) (init ! 2 refl (tt, wt .1 .0)) $
           assigns ! (of-opd ! (load ! (from ! (fld ! refl (stop !))) (look-in ! 6 (sub ! 1 refl (whole !))))) (from ! (stop !)) (init ! 0 refl (tt, wt .1 .1 .0)) $
-          move ! (10 ∷ []) $ use1 W (raw (Of .pre to) ⊛ ‵ (View α d)) (asked (wt .1 .1 .0 .fits) gi) $ split ! $
+          move ! (10 ∷ []) $ use1 W (raw (Of .pre to) ⊛ ‵ (View α d)) (asked (wt .1 .1 .0 .fits) ga) $ split ! $
           calls-at ! fm Of known to (and-then ! (load ! (from ! (stop !)) (look ! 4 refl)) (and-then ! (load ! (from ! (stop !)) (look ! 2 refl)) (and-then ! (load ! (from ! (stop !)) (look ! 6 refl)) (no-more !)))) (λ u.
           use1 W (later (some (λ (r : GuestRead). ((‵ (flft κ q) ⊛ ‵ ftrue) ⊛ ‵ (S.the-row .own r (u ∷ []))) ⊛ raw (ensured 𝓤 H A step.ended of-saying (κ, tt) (d .bytes, (d .base, (a, tt))) tt r)))) (id⊢ 𝓤 _) $ await ! tt $ pick ! (λ r.
           split ! $ move ! (1 ∷ []) $ use1 W (raw (fact 𝓤 (r ≡ found))) (said r) $ heard ! (r ≡ found) (λ e. split ! $ move ! (1 ∷ []) $
@@ -131,7 +131,7 @@ module _ (read : List ℕ → ℕ → ℕ → GuestRead) {M : Type 1} (𝓤 : UR
           peeks ! S.the-row (Is S.the-row) (shows 𝓤 H A S.the-row) r (u ∷ []) (λ is.
           land ! (from ! (stop !)) (init ! 11 refl (EL.lawful S.the-type S′.the-laws 𝓤 H A W tt .typed r _ is .0)) $
           returns ! (look ! 11 refl) $ forget ! 3 refl $ forget ! 5 refl $ forget ! 7 refl $ forget ! 9 refl $ forget ! 11 refl $
-          move ! (11 ∷ 12 ∷ []) $ free1 ! $ move ! (9 ∷ 10 ∷ []) $ free1 ! $ move ! (7 ∷ 8 ∷ []) $ free1 ! $ move ! (5 ∷ 6 ∷ []) $ free1 ! $ move ! (3 ∷ 4 ∷ []) $ free1 ! $ free0 ! $ by ! (exits r u gi e))))))))))
+          move ! (11 ∷ 12 ∷ []) $ free1 ! $ move ! (9 ∷ 10 ∷ []) $ free1 ! $ move ! (7 ∷ 8 ∷ []) $ free1 ! $ move ! (5 ∷ 6 ∷ []) $ free1 ! $ move ! (3 ∷ 4 ∷ []) $ free1 ! $ free0 ! $ by ! (exits r u ga e))))))))))
 
   pub reader-meets : Given 𝓤 H A → (callee : Name) (𝓣 : Tables 𝓤 H) → Triple 𝓤 (𝓣 .C callee) Of → Meets 𝓤 H A reader.signature (WpFn 𝓤 H (𝓣 .C) (𝓣 .Λ) (reads callee)) (closing 𝓤 H A reader.ended saying)
   reader-meets W callee 𝓣 known =

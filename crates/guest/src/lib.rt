@@ -1,5 +1,5 @@
-// Guest memory as a struct that borrows its bytes beside their base, with thin readers over it. (system_bus.rs, what `decode_block` takes of it)
-// Nothing else takes the struct: each reader takes it apart, and the work is done on the slice and the base.
+// Guest memory as a struct that borrows its bytes beside their base, where the Rust has a bus, with two readers and `decode_block` over it. (system_bus.rs; block.rs, `decode_block(bus, pc)`)
+// Each takes the struct apart, and the work is done on the slice and the base. The borrow checker covers no function over such a struct, so their proofs are walks by hand.
 ghost use mathlib.Core.Path.{_≡_};
 ghost use Rattle.form.specs.Forming.{rust};
 ghost use Rattle.form.specs.Call.{formNumber, formCall};
@@ -33,7 +33,7 @@ fn spans(size: u64, base: u64, address: u64, count: u64) -> bool
     true
 }
 
-// The readers' work, on the slice and the base. Odd addresses are read too.
+// The readers' work. Odd addresses are read too.
 pub fn halfword_of(memory: &[u8], base: u64, address: u64) -> GuestRead
     ensures { λ r. ⌜ r ≡ readHalfword (now (memory .entry)) base address ⌝ }
 {
