@@ -1,2 +1,3 @@
--- What the two decode calls answer and leave behind.
+-- The reading that the code has, and what the two decode calls answer and leave behind.
+pub mod Readings
 pub mod Call

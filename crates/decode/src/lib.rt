@@ -5,29 +5,12 @@ ghost use Prim.Native.Nat.{_+_, _≤_};
 ghost use lib.ListN.{length};
 ghost use Rattle.word.specs.Word.{rustWord};
 ghost use Rattle.halfword.specs.Halfword.{rustHalf};
-ghost use Rattle.decode.specs.Call.{decodeNumber, putOf, putNumber, wordCall, halfCall};
+ghost use Rattle.decode.specs.Readings.{rust};
+ghost use Rattle.decode.specs.Call.{putOf, wordCall, halfCall};
+use answer::Answer;
+use answer::Refusal;
 use op::Decoded;
 use op::OpRecord;
-
-// What a decode call answers.
-pub enum DecodeAnswer {
-    OpWritten,
-    NoOp,
-    WrongOpBuffer,
-}
-
-impl DecodeAnswer {
-    // Document 01's number.
-    pub fn number(self) -> u64
-        ensures { λ r. ⌜ r ≡ decodeNumber self ⌝ }
-    {
-        match self {
-            Self::OpWritten => 0,
-            Self::NoOp => 4,
-            Self::WrongOpBuffer => 6,
-        }
-    }
-}
 
 // Whether a buffer of this length is one op record.
 fn is_record(len: usize) -> bool
@@ -36,9 +19,9 @@ fn is_record(len: usize) -> bool
     len == OpRecord::LEN
 }
 
-// What was put into lent bytes: a record, whose op number this is, or none.
+// What was put into lent bytes: a record, whose op number and ilen these are, or none.
 pub enum Put {
-    Recorded(u8),
+    Recorded(u8, u8),
     Nothing,
 }
 
@@ -51,7 +34,7 @@ fn write(decoded: Decoded, ilen: u8, lent: &mut [u8], at: usize, off: u16) -> Pu
         return Put::Nothing;
     };
     op::write_op(lent, at, op, ilen, off);
-    Put::Recorded(op::fields_of(op).op)
+    Put::Recorded(op::fields_of(op).op, ilen)
 }
 
 // Decodes a word and writes its record. Decoder and writer stand in one function, for forming and for the call below: then the compiler joins the end
@@ -71,31 +54,30 @@ pub fn put_halfword(raw: u16, lent: &mut [u8], at: usize, off: u16) -> Put
     write(halfword::decode_compressed(raw), 2, lent, at, off)
 }
 
-fn answer(was: Put) -> DecodeAnswer
-    ensures { λ r. ⌜ decodeNumber r ≡ putNumber was ⌝ }
-{
-    match was {
-        Put::Recorded(_) => DecodeAnswer::OpWritten,
-        Put::Nothing => DecodeAnswer::NoOp,
-    }
-}
-
 // Decodes a word into the lent record of sixteen bytes.
-pub fn decode_word(raw: u32, lent: &mut [u8]) -> DecodeAnswer
-    ensures { λ r. ⌜ (decodeNumber r, now (lent .exit)) ≡ wordCall raw (now (lent .entry)) ⌝ }
+pub fn decode_word(raw: u32, lent: &mut [u8]) -> Answer
+    ensures { λ r. ⌜ (r, now (lent .exit)) ≡ wordCall rust raw (now (lent .entry)) ⌝ }
 {
     if is_record(lent.len()) {
-        return answer(put_word(raw, lent, 0, 0));
+        match put_word(raw, lent, 0, 0) {
+            Put::Recorded(_, _) => Answer::Done,
+            Put::Nothing => Answer::Refused(Refusal::NoOp),
+        }
+    } else {
+        Answer::Refused(Refusal::WrongBuffer)
     }
-    DecodeAnswer::WrongOpBuffer
 }
 
 // Decodes a halfword into the lent record of sixteen bytes.
-pub fn decode_halfword(raw: u16, lent: &mut [u8]) -> DecodeAnswer
-    ensures { λ r. ⌜ (decodeNumber r, now (lent .exit)) ≡ halfCall raw (now (lent .entry)) ⌝ }
+pub fn decode_halfword(raw: u16, lent: &mut [u8]) -> Answer
+    ensures { λ r. ⌜ (r, now (lent .exit)) ≡ halfCall rust raw (now (lent .entry)) ⌝ }
 {
     if is_record(lent.len()) {
-        return answer(put_halfword(raw, lent, 0, 0));
+        match put_halfword(raw, lent, 0, 0) {
+            Put::Recorded(_, _) => Answer::Done,
+            Put::Nothing => Answer::Refused(Refusal::NoOp),
+        }
+    } else {
+        Answer::Refused(Refusal::WrongBuffer)
     }
-    DecodeAnswer::WrongOpBuffer
 }

@@ -1,4 +1,5 @@
 -- Laws of forming, in any reading.
+pub mod Judged
 pub mod Kept
 pub mod Loop
 pub mod Page

@@ -8,11 +8,14 @@ use native.Mathlib.Omega.{arith}
 use lib.ListN.{length}
 use Rattle.bits.specs.Bytes.{patch}
 use Rattle.bits.proofs.Bytes.{length-patch, patch-append, patch-nothing}
-use Rattle.op.specs.Record.{opRecord}
+use Rattle.op.specs.Reading.{Reading}
+use Rattle.op.specs.Record.{opFields, opRecord}
 use Rattle.op.specs.declared.Op.{Op}
+use Rattle.op.specs.declared.Decoded.the-variants.{Some, None}
 use Rattle.op.proofs.Record.{length-record}
 use Rattle.block.specs.Record.{Insn, insn, opRecords, byteLen}
-use Rattle.form.specs.Forming.{Reading, endsBlock, fetched, opsFrom, Kept, Stop}
+use Rattle.block.specs.WellFormed.{jumps}
+use Rattle.form.specs.Forming.{ilenAt, opAt, opsFrom}
 use Rattle.form.specs.Written.{Written}
 
 module _ (r : Reading) (s : List ℕ) (n at : ℕ) where
@@ -20,14 +23,14 @@ module _ (r : Reading) (s : List ℕ) (n at : ℕ) where
   unfolding opsFrom
   ops-full h = let e : 64 - n ≡ 0 = omega arith in rw e
 
-  pub ops-stop : n < 64 → fetched r s at ≡ Stop → opsFrom r s (64 - n) at ≡ []
+  pub ops-stop : n < 64 → opAt r s at ≡ None → opsFrom r s (64 - n) at ≡ []
   unfolding opsFrom
   ops-stop h e = let more : 64 - n ≡ suc (64 - (n + 1)) = omega arith in rw (more, e)
 
-  pub ops-kept : n < 64 → (op : Op) (ilen : ℕ) → fetched r s at ≡ Kept op ilen
-      → opsFrom r s (64 - n) at ≡ insn op ilen ∷ cond (endsBlock op) [] (opsFrom r s (64 - (n + 1)) (at + ilen))
+  pub ops-kept : n < 64 → (op : Op) (ilen : ℕ) → opAt r s at ≡ Some op → ilenAt s at ≡ ilen
+      → opsFrom r s (64 - n) at ≡ insn op ilen ∷ cond (jumps (opFields op .op)) [] (opsFrom r s (64 - (n + 1)) (at + ilen))
   unfolding opsFrom
-  ops-kept h op ilen e = let more : 64 - n ≡ suc (64 - (n + 1)) = omega arith in rw (more, e)
+  ops-kept h op ilen e l = let more : 64 - n ≡ suc (64 - (n + 1)) = omega arith in rw (more, e, l)
 
 pub record Left (all rest : List Insn) (old lent : List ℕ) (count at : ℕ) : Type 0 where
   pub bytes : patch lent (16 + count * 16) (opRecords at rest) ≡ patch old 16 (opRecords 0 all)

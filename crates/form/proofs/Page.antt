@@ -6,8 +6,9 @@ use Prim.Native.Nat.{ℕ, _+_, _-_, _*_, _/_, _%_, _<_}
 use native.Mathlib.Omega.{arith}
 use lib.ListN.{length, getD, drop, length-take, length-drop}
 use lib.Seq.{ext-getD, getD-take, getD-drop}
+use Rattle.op.specs.Reading.{Reading}
 use Rattle.block.specs.Memory.{page}
-use Rattle.form.specs.Forming.{Reading, opsFrom, formed}
+use Rattle.form.specs.Forming.{opsFrom, formed}
 
 pub same-page : (r : Reading) (memory other : List ℕ) (base address : ℕ) → page memory base address ≡ page other base address
     → formed r memory base address ≡ formed r other base address

@@ -7,26 +7,28 @@ use native.Mathlib.Omega.{arith}
 use lib.ListN.{length, take, drop, replicate, length-append, length-drop, drop-of-length-le}
 use lib.Seq.{length-take-le, take-at, drop-at}
 use borrow.Rule.Slice.PartMut.{midOf, mid-len, putMid}
+use Rattle.answer.specs.declared.Refusal.the-variants.{NoOp}
+use Rattle.answer.specs.declared.Answer.the-variants.{Done, Refused}
 use Rattle.bits.specs.Bytes.{patch}
 use Rattle.bits.proofs.Bytes.{length-patch, patch-nothing}
 use Rattle.block.specs.Record.{Insn, headBytes, opRecords, blockRecord}
 use Rattle.block.proofs.Records.{length-op-records}
-use Rattle.form.specs.Call.{recordOrNone}
+use Rattle.form.specs.Call.{formedInto}
 use Rattle.form.specs.Written.{Written}
 
-pub refused : (address : ℕ) (ops : List Insn) (old lent : List ℕ) → length ops ≡ 0 → lent ≡ patch old 16 (opRecords 0 ops) → (4, lent) ≡ recordOrNone address ops old
+pub refused : (address : ℕ) (ops : List Insn) (old lent : List ℕ) → length ops ≡ 0 → lent ≡ patch old 16 (opRecords 0 ops) → (Refused NoOp, lent) ≡ formedInto Done address ops old
 unfolding opRecords
-refused address [] old lent n e = ap (λ (s : List ℕ). (4, s)) (e ∙ patch-nothing old 16)
+refused address [] old lent n e = ap (λ (s : List ℕ). (Refused NoOp, s)) (e ∙ patch-nothing old 16)
 refused address (first ∷ rest) old lent n e = absurd (let z : suc (length rest) ≡ 0 = n in omega arith)
 
-some-record : (address : ℕ) (ops : List Insn) (old : List ℕ) → (length ops ≡ 0 → ⊥) → (0, blockRecord address ops) ≡ recordOrNone address ops old
+some-record : (address : ℕ) (ops : List Insn) (old : List ℕ) → (length ops ≡ 0 → ⊥) → (Done, blockRecord address ops) ≡ formedInto Done address ops old
 some-record address [] old some = absurd (some refl)
 some-record address (first ∷ rest) old some = refl
 
 -- the records, zeros behind them, and then the header
 pub sealed : (address : ℕ) (ops : List Insn) (old lent head zeros : List ℕ) (n len : ℕ) → (n ≡ 0 → ⊥) → length old ≡ 1040 → Written ops old lent n len
     → head ≡ headBytes address n len → zeros ≡ replicate (length (midOf (16 + n * 16) (length lent - (16 + n * 16)) lent)) 0
-    → (0, head ++ drop 16 (putMid (16 + n * 16) (length lent - (16 + n * 16)) lent zeros)) ≡ recordOrNone address ops old
+    → (Done, head ++ drop 16 (putMid (16 + n * 16) (length lent - (16 + n * 16)) lent zeros)) ≡ formedInto Done address ops old
 unfolding blockRecord patch
 sealed address ops old lent head zeros n len some l w h z =
     let recs = opRecords 0 ops in

@@ -9,10 +9,12 @@ use lib.Dec.{eqb}
 use lib.ListN.{length, getD, take, drop, replicate, length-take, length-drop}
 use lib.Seq.{getD-drop}
 use borrow.Author.Tests.{eq-eqb}
+use Rattle.op.specs.Reading.{Reading}
 use Rattle.op.specs.Record.{opFields}
 use Rattle.op.specs.WellFormed.{ilenKnown}
 use Rattle.op.specs.declared.Op.{Op}
-use Rattle.op.specs.declared.Decoded.the-variants.{Some}
+use Rattle.op.specs.declared.Decoded.{Decoded}
+use Rattle.op.specs.declared.Decoded.the-variants.{Some, None}
 use Rattle.op.proofs.Proper.{Proper, proper-well}
 use Rattle.word.proofs.Read.{word-op}
 use Rattle.halfword.proofs.Read.{half-op}
@@ -22,25 +24,22 @@ use Rattle.block.specs.WellFormed.{allZero, jumps, opsWellFormed, wellFormed}
 use Rattle.block.proofs.Places.{Geometry, geometry, held}
 use Rattle.block.proofs.Records.{walk-record, record-well}
 use Rattle.block.proofs.Zeros.{zero-all}
-use Rattle.form.specs.Forming.{Reading, rust, endsBlock, fetched, andThen, opsFrom, formed, Fetched, Kept, Stop}
-use Rattle.form.proofs.Kept.{fetched-by, Within, within}
-
--- a reading that gives proper ops, and never a Fallback
-pub record Sound (r : Reading) : Type 0 where
-  pub words : (w : ℕ) (op : Op) → r .ofWord w ≡ Some op → (eqb (opFields op .op) 9 ≡ false) × Proper op
-  pub halves : (w : ℕ) (op : Op) → r .ofHalf w ≡ Some op → (eqb (opFields op .op) 9 ≡ false) × Proper op
+use Rattle.decode.specs.Readings.{rust}
+use Rattle.form.specs.Sound.{Sound}
+use Rattle.form.specs.Forming.{ilenAt, opAt, andThen, opsFrom, formed}
+use Rattle.form.proofs.Kept.{op-by, Within, within}
 
 pub rust-sound : Sound rust
 rust-sound = record { words = word-op; halves = half-op }
 
-abbrev Well : Fetched → Type 0
-Well Stop = Unit {0}
-Well (Kept op ilen) = Proper op × (ilenKnown (opFields op .op) ilen ≡ true)
+abbrev Well : Decoded → ℕ → Type 0
+Well None ilen = Unit {0}
+Well (Some op) ilen = Proper op × (ilenKnown (opFields op .op) ilen ≡ true)
 
 module _ (r : Reading) (sound : Sound r) (s : List ℕ) (byte : (i : ℕ) → getD s i 0 < 256) where
-  fetched-well : (at : ℕ) → Well (fetched r s at)
-  fetched-well at =
-      fetched-by Well tt r s at
+  op-well : (at : ℕ) → Well (opAt r s at) (ilenAt s at)
+  op-well at =
+      op-by Well (λ ilen. tt) r s at
       (λ h op e. let o = sound .halves _ op e in (o .1, rw (o .0)))
       (λ h op e. (sound .words _ op e .1, refl))
       (λ h. (omega (arith, byte at, byte (at + 1), byte (at + 2), byte (at + 2 + 1)), refl))
@@ -58,7 +57,7 @@ module _ (s : List ℕ) (fits : length s ≤ 4096) (n at : ℕ) (inside : at ≤
       let e : at ≡ at + 0 = omega arith in
       record { few = omega arith; short = omega arith; well = λ tail z. rw (eq-eqb at (at + 0) e, z) }
 
-  one-more : (op : Op) (ilen : ℕ) (rest : List Insn) → Well (Kept op ilen) → Within s at (Kept op ilen) → (eqb (length rest) 0 || not (jumps (opFields op .op))) ≡ true
+  one-more : (op : Op) (ilen : ℕ) (rest : List Insn) → Well (Some op) ilen → Within s at (Some op) ilen → (eqb (length rest) 0 || not (jumps (opFields op .op))) ≡ true
       → Run s n (at + ilen) rest → Run s (suc n) at (insn op ilen ∷ rest)
   unfolding byteLen
   one-more op ilen rest w i j run =
@@ -74,21 +73,21 @@ module _ (s : List ℕ) (fits : length s ≤ 4096) (n at : ℕ) (inside : at ≤
             ∙ run .well tail z;
       }
 
-module _ (s : List ℕ) (fits : length s ≤ 4096) (n at : ℕ) (inside : at ≤ length s) (next : ℕ → List Insn) (later : (ilen : ℕ) → at + ilen ≤ length s → Run s n (at + ilen) (next ilen)) where
-  op-run : (op : Op) (ilen : ℕ) → Well (Kept op ilen) → Within s at (Kept op ilen) → (b : Bool) → endsBlock op ≡ b → Run s (suc n) at (insn op ilen ∷ cond b [] (next ilen))
-  op-run op ilen w i true e = one-more s fits n at inside op ilen [] w i refl (no-more s fits n (at + ilen) (i .0) n)
-  op-run op ilen w i false e =
-      one-more s fits n at inside op ilen (next ilen) w i (rw e (or-true (eqb (length (next ilen)) 0))) (later ilen (i .0))
+module _ (s : List ℕ) (fits : length s ≤ 4096) (n at : ℕ) (inside : at ≤ length s) (ilen : ℕ) (next : List Insn) (later : at + ilen ≤ length s → Run s n (at + ilen) next) where
+  op-run : (op : Op) → Well (Some op) ilen → Within s at (Some op) ilen → (b : Bool) → jumps (opFields op .op) ≡ b → Run s (suc n) at (insn op ilen ∷ cond b [] next)
+  op-run op w i true e = one-more s fits n at inside op ilen [] w i refl (no-more s fits n (at + ilen) (i .0) n)
+  op-run op w i false e = one-more s fits n at inside op ilen next w i (rw e (or-true (eqb (length next) 0))) (later (i .0))
 
-  then-run : (f : Fetched) → Well f → Within s at f → Run s (suc n) at (andThen f next)
-  then-run Stop w i = no-more s fits n at inside (suc n)
-  then-run (Kept op ilen) w i = op-run op ilen w i (endsBlock op) refl
+  then-run : (d : Decoded) → Well d ilen → Within s at d ilen → Run s (suc n) at (andThen d ilen next)
+  then-run None w i = no-more s fits n at inside (suc n)
+  then-run (Some op) w i = op-run op w i (jumps (opFields op .op)) refl
 
 ops-run : (r : Reading) → Sound r → (s : List ℕ) → ((i : ℕ) → getD s i 0 < 256) → length s ≤ 4096 → (n at : ℕ) → at ≤ length s → Run s n at (opsFrom r s n at)
 unfolding opsFrom
 ops-run r sound s byte fits zero at inside = no-more s fits 0 at inside 0
 ops-run r sound s byte fits (suc n) at inside =
-    then-run s fits n at inside (λ ilen. opsFrom r s n (at + ilen)) (λ ilen h. ops-run r sound s byte fits n (at + ilen) h) (fetched r s at) (fetched-well r sound s byte at) (within r s at)
+    let ilen = ilenAt s at in
+    then-run s fits n at inside ilen (opsFrom r s n (at + ilen)) (λ h. ops-run r sound s byte fits n (at + ilen) h) (opAt r s at) (op-well r sound s byte at) (within r s at)
 
 take-byte : (n : ℕ) (s : List ℕ) → ((i : ℕ) → getD s i 0 < 256) → (i : ℕ) → getD (take n s) i 0 < 256
 take-byte zero s byte i = omega arith

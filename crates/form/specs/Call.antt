@@ -1,31 +1,31 @@
--- The form call: document 01's number, and the lent record afterwards.
+-- The form call, in any reading: the answer, and the lent record afterwards.
 -- Assumes nothing.
 use Prim.Native.Nat.{ℕ}
-use mathlib.Core.Bool.{cond}
+use mathlib.Core.Bool.{cond, not}
 use mathlib.Core.List.{List, [], _∷_}
 use lib.Dec.{eqb}
 use lib.ListN.{length}
+use Rattle.answer.specs.declared.Refusal.the-variants.{BadGeometry, OutsideMemory, NoOp, WrongBuffer}
+use Rattle.answer.specs.declared.Answer.{Answer}
+use Rattle.answer.specs.declared.Answer.the-variants.{Done, Refused}
+use Rattle.op.specs.Reading.{Reading}
 use Rattle.block.specs.Memory.{goodMemory, inMemory}
 use Rattle.block.specs.Record.{Insn, blockRecord}
-use Rattle.form.specs.Forming.{Reading, formed}
-use Rattle.form.specs.declared.FormAnswer.{FormAnswer}
-use Rattle.form.specs.declared.FormAnswer.the-variants.{BlockFormed, WrongMemory, OutsideMemory, NoBlock, WrongRecordBuffer}
+use Rattle.form.specs.Forming.{formed}
 
-abbrev pub formNumber : FormAnswer → ℕ
-formNumber BlockFormed = 0
-formNumber WrongMemory = 2
-formNumber OutsideMemory = 3
-formNumber NoBlock = 4
-formNumber WrongRecordBuffer = 6
+-- 2, 6, 3: whether forming may begin, by the lengths of the memory and of the lent record, the base and the address
+abbrev pub formJudged : ℕ → ℕ → ℕ → ℕ → Answer
+formJudged size room base address =
+    cond (not (goodMemory size base)) (Refused BadGeometry)
+    (cond (not (eqb room 1040)) (Refused WrongBuffer)
+    (cond (not (inMemory size base address)) (Refused OutsideMemory) Done))
 
-abbrev pub recordOrNone : ℕ → List Insn → List ℕ → ℕ × List ℕ
-recordOrNone address [] lent = (4, lent)
-recordOrNone address (first ∷ rest) lent = (0, blockRecord address (first ∷ rest))
+-- then the block, or 4 where it has no ops
+abbrev pub formedInto : Answer → ℕ → List Insn → List ℕ → Answer × List ℕ
+formedInto (Refused why) address ops lent = (Refused why, lent)
+formedInto Done address [] lent = (Refused NoOp, lent)
+formedInto Done address (first ∷ rest) lent = (Done, blockRecord address (first ∷ rest))
 
-unfoldable pub formCall : Reading → List ℕ → ℕ → ℕ → List ℕ → ℕ × List ℕ
+unfoldable pub formCall : Reading → List ℕ → ℕ → ℕ → List ℕ → Answer × List ℕ
 formCall reading memory base address lent =
-    cond (goodMemory (length memory) base)
-    (cond (eqb (length lent) 1040)
-    (cond (inMemory (length memory) base address) (recordOrNone address (formed reading memory base address) lent) (3, lent))
-    (6, lent))
-    (2, lent)
+    formedInto (formJudged (length memory) (length lent) base address) address (formed reading memory base address) lent

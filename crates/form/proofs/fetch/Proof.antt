@@ -10,8 +10,8 @@ use borrow.Author.Tests.{lt-ltb, le-ltb, eq-eqb, ne-eqb}
 use Rattle.bits.specs.Bytes.{halfwordAt}
 use Rattle.word.specs.Word.{rustWord}
 use Rattle.halfword.specs.Halfword.{rustHalf}
-use Rattle.form.specs.Forming.{halfFetched, wordFetched, fetched}
-use Rattle.form.specs.Written.{taken}
+use Rattle.decode.specs.Call.{putOf}
+use Rattle.form.specs.Forming.{orFallback, opAt}
 use borrow.Author.Needs.{needs}
 use Rattle.form.proofs.fetch.Statement.{statement}
 use Rattle.form.proofs.fetch.Tie as tie
@@ -33,7 +33,7 @@ is-half : (c : tie.Else2) → eqb (halfwordAt (S (c .before)) (At (c .before)) %
 is-half c = ne-eqb (halfwordAt (S (c .before)) (At (c .before)) % 4) 3 (rw (c .before .halfword-at .ensures) at (c .if2 .left))
 
 pub fetch-spec : {M : Type 1} → statement M
-unfolding fetched
+unfolding opAt
 fetch-spec =
     tie.close
     (tie.spec
@@ -52,7 +52,7 @@ fetch-spec =
     let a = low .before .before .before .before .args in
     let whole : ltb (length (S low)) (At low + 4) ≡ false = le-ltb (length (S low)) (At low + 4) (wide .if3 .left) in
     rw (has-two low, is-word (wide .before), whole)
-    (called .fetch-word .ensures ∙ ap (λ (w : ℕ). taken (a .place) (a .at) (wordFetched w (rustWord w)) (a .lent .now)) (called .before .before .word-at .ensures)))
+    (called .fetch-word .ensures ∙ ap (λ (w : ℕ). putOf (orFallback w (rustWord w)) 4 (a .place) (a .at) (a .lent .now)) (called .before .before .word-at .ensures)))
     (λ c. search needs) (λ c κs. search needs) (λ c. search needs)
     (λ c.
     let called = c .before .before in
@@ -60,4 +60,4 @@ fetch-spec =
     let low = half .before in
     let a = low .before .before .before .before .args in
     rw (has-two low, is-half half)
-    (called .fetch-halfword .ensures ∙ ap (λ (h : ℕ). taken (a .place) (a .at) (halfFetched (rustHalf h)) (a .lent .now)) (low .halfword-at .ensures))))
+    (called .put-halfword .ensures ∙ ap (λ (h : ℕ). putOf (rustHalf h) 2 (a .place) (a .at) (a .lent .now)) (low .halfword-at .ensures))))

@@ -1,21 +1,21 @@
 -- `form::fetch_word` meets its contract.
 -- Assumes nothing.
-use mathlib.Core.Path.{_≡_, refl, sym, _∙_}
+use mathlib.Core.Path.{_≡_, sym, _∙_}
 use Rattle.word.specs.Word.{rustWord}
 use Rattle.op.specs.declared.Decoded.the-variants.{None}
-use Rattle.form.specs.Forming.{wordFetched}
-use Rattle.form.proofs.Taken.{put-took, nothing-put, word-stopped, word-fallback}
+use Rattle.form.proofs.Taken.{stopped, word-kept, word-stopped, word-fallback}
 use borrow.Author.Needs.{needs}
 use Rattle.form.proofs.fetch_word.Statement.{statement}
 use Rattle.form.proofs.fetch_word.Tie as tie
 
+-- where nothing was decoded
 abbrev called : tie.After-enum-told → tie.After-put-word
 called c = c .before .before .before .before
 
 nothing : (c : tie.After-enum-told) → (rustWord (called c .before .before .before .args .raw) ≡ None) × (called c .put-word .last .1 .0 ≡ called c .before .before .before .args .lent .now)
 nothing c =
     let a = called c .before .before .before .args in
-    nothing-put (a .place) (a .off) (a .lent .now) (rustWord (a .raw)) 4 (c .enum-told .given .1) (called c .put-word .ensures)
+    stopped 4 (a .place) (a .off) (a .lent .now) (rustWord (a .raw)) (c .enum-told .given .1) (called c .put-word .ensures)
 
 pub fetch-word-spec : {M : Type 1} → statement M
 fetch-word-spec =
@@ -37,4 +37,4 @@ fetch-word-spec =
     (λ c.
     let done = c .before .before .before .before .before in
     let a = done .before .before .before .args in
-    put-took (a .place) (a .off) (a .lent .now) (rustWord (a .raw)) 4 (wordFetched (a .raw)) (λ op. refl) (c .before .put .given .1) (done .put-word .ensures)))
+    word-kept (a .place) (a .off) (a .lent .now) (a .raw) (rustWord (a .raw)) (c .before .op .given .1) (done .put-word .ensures)))

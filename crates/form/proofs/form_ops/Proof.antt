@@ -8,7 +8,11 @@ use native.Mathlib.Omega.{arith}
 use lib.ListN.{length}
 use borrow.Author.Needs.{needs}
 use Rattle.block.specs.WellFormed.{jumps}
-use Rattle.form.specs.Forming.{rust, Kept, Stop, endsBlock, fetched, opsFrom}
+use Rattle.op.specs.Record.{opFields}
+use Rattle.op.specs.declared.Decoded.{Decoded}
+use Rattle.op.specs.declared.Decoded.the-variants.{Some, None}
+use Rattle.decode.specs.Readings.{rust}
+use Rattle.form.specs.Forming.{ilenAt, opAt, opsFrom}
 use Rattle.form.specs.Written.{Written}
 use Rattle.form.proofs.Kept.{Within, within}
 use Rattle.form.proofs.Taken.{Taking, took, stopped}
@@ -48,36 +52,40 @@ Now c = c .fetch .last .1 .1 .0
 
 -- where it took an op: its number, its length, and that it lies within s
 abbrev Came : Type 0
-Came = tie.After-step Inv-loop μ-loop
+Came = tie.After-op Inv-loop μ-loop
 
 abbrev made : Came → Made
 made c = c .before .before .before .before
 
 abbrev N : Came → ℕ
-N c = c .step .given .0 .0
+N c = c .op .given .0 .0
 
 abbrev L : Came → ℕ
-L c = c .step .given .0 .1 .0
+L c = c .op .given .0 .1 .0
 
-taking : (c : Came) → Taking (fetched rust (S (made c)) (At (made c))) (16 + Count (made c) * 16) (At (made c)) (Lent (made c)) (Now (made c)) (N c) (L c)
-taking c = took _ _ _ _ (c .step .given .1) (made c .fetch .ensures)
+taking : (c : Came) → Taking (opAt rust (S (made c)) (At (made c))) (ilenAt (S (made c)) (At (made c))) (16 + Count (made c) * 16) (At (made c)) (Lent (made c)) (Now (made c)) (N c) (L c)
+taking c = took _ _ _ _ _ (c .op .given .1) (made c .fetch .ensures)
 
-inside : (c : Came) → Within (S (made c)) (At (made c)) (Kept (taking c .op) (L c))
-inside c = subst (Within (S (made c)) (At (made c))) (taking c .is) (within rust (S (made c)) (At (made c)))
+inside : (c : Came) → Within (S (made c)) (At (made c)) (Some (taking c .op)) (L c)
+inside c =
+    let s = S (made c) in
+    let at = At (made c) in
+    let t = taking c in
+    subst (Within s at (Some (t .op))) (t .long) (subst (λ (d : Decoded). Within s at d (ilenAt s at)) (t .is) (within rust s at))
 
 left : (c : Came) → Left (opsFrom rust (S (made c)) 64 0)
-    (cond (endsBlock (taking c .op)) [] (opsFrom rust (S (made c)) (64 - (Count (made c) + 1)) (At (made c) + L c)))
+    (cond (jumps (opFields (taking c .op) .op)) [] (opsFrom rust (S (made c)) (64 - (Count (made c) + 1)) (At (made c) + L c)))
     (Old (made c)) (Now (made c)) (Count (made c) + 1) (At (made c) + L c)
 left c =
     let m = made c in
     let t = taking c in
     let h : Count m < 64 = m .before .before .loop-test .taken in
     step (t .op) (Now m) (t .wrote) h
-    (rw (ops-kept rust (S m) (Count m) (At m) h (t .op) (L c) (t .is)) at (m .before .before .before .loop .inv .0))
+    (rw (ops-kept rust (S m) (Count m) (At m) h (t .op) (L c) (t .is) (t .long)) at (m .before .before .before .loop .inv .0))
 
 -- where it stopped
-none : (c : tie.After-enum-told Inv-loop μ-loop) → (fetched rust (S (c .before .before .before .before)) (At (c .before .before .before .before)) ≡ Stop) × (Now (c .before .before .before .before) ≡ Lent (c .before .before .before .before))
-none c = stopped _ _ _ _ (c .enum-told .given .1) (c .before .before .before .before .fetch .ensures)
+none : (c : tie.After-enum-told Inv-loop μ-loop) → (opAt rust (S (c .before .before .before .before)) (At (c .before .before .before .before)) ≡ None) × (Now (c .before .before .before .before) ≡ Lent (c .before .before .before .before))
+none c = stopped _ _ _ _ _ (c .enum-told .given .1) (c .before .before .before .before .fetch .ensures)
 
 pub form-ops-spec : {M : Type 1} → statement M
 form-ops-spec =
@@ -105,12 +113,12 @@ form-ops-spec =
     (λ c. left (c .before .before .before) .room ∙ sym (made (c .before .before .before) .before .before .before .before .before .before .pre .1))
     (λ c.
     let came = c .before .before .before in
-    let e : endsBlock (taking came .op) ≡ true = ap jumps (sym (taking came .number)) ∙ sym (c .before .jumps .ensures) ∙ c .if1 .taken in
+    let e : jumps (opFields (taking came .op) .op) ≡ true = ap jumps (sym (taking came .number)) ∙ sym (c .before .jumps .ensures) ∙ c .if1 .taken in
     finish (omega arith) (omega (arith, inside came)) (rw e at (left came)))
     (λ c. omega arith)
     (λ c.
     let came = c .before .before .before in
-    let e : endsBlock (taking came .op) ≡ false = ap jumps (sym (taking came .number)) ∙ sym (c .before .jumps .ensures) ∙ c .if1 .left in
+    let e : jumps (opFields (taking came .op) .op) ≡ false = ap jumps (sym (taking came .number)) ∙ sym (c .before .jumps .ensures) ∙ c .if1 .left in
     (rw e at (left came), omega arith, omega (arith, inside came)))
     (λ c. c .before .loop .inv .0 .room ∙ sym (c .before .before .before .before .pre .1))
     (λ c.

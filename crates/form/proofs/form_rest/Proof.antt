@@ -1,7 +1,8 @@
 -- `form::form_rest` meets its contract.
 -- Assumes nothing.
 use mathlib.Core.Path.{sym, _∙_}
-use Rattle.form.specs.Forming.{rust, opsFrom}
+use Rattle.decode.specs.Readings.{rust}
+use Rattle.form.specs.Forming.{opsFrom}
 use Rattle.form.proofs.Seal.{refused, sealed}
 use borrow.Author.Needs.{needs}
 use Rattle.form.proofs.form_rest.Statement.{statement}

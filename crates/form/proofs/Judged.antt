@@ -1,0 +1,52 @@
+-- What the form call's judge found where forming may begin, and what a block that was formed tells.
+-- Assumes nothing.
+use mathlib.Core.Path.{_≡_, refl, ap}
+use mathlib.Core.Bool.{Bool, true, false, cond, not}
+use mathlib.Core.List.{List, [], _∷_}
+use Prim.Native.Nat.{ℕ, zero, suc}
+use native.Mathlib.Omega.{arith}
+use lib.Dec.{eqb}
+use lib.ListN.{length}
+use borrow.Author.Tests.{eqb-true}
+use Rattle.answer.specs.declared.Refusal.{Refusal}
+use Rattle.answer.specs.declared.Refusal.the-variants.{BadGeometry, OutsideMemory, NoOp, WrongBuffer}
+use Rattle.answer.specs.declared.Answer.{Answer}
+use Rattle.answer.specs.declared.Answer.the-variants.{Done, Refused}
+use Rattle.op.specs.Reading.{Reading}
+use Rattle.block.specs.Memory.{goodMemory, inMemory}
+use Rattle.block.specs.Record.{Insn, blockRecord}
+use Rattle.form.specs.Forming.{formed}
+use Rattle.form.specs.Call.{formJudged, formedInto, formCall}
+
+pub record Begun (size room base address : ℕ) : Type 0 where
+  pub good : goodMemory size base ≡ true
+  pub whole : room ≡ 1040
+  pub inner : inMemory size base address ≡ true
+
+pub begun : (size room base address : ℕ) → formJudged size room base address ≡ Done → Begun size room base address
+begun size room base address e =
+    let f = by (goodMemory size base) (eqb room 1040) (inMemory size base address) e in
+    record { good = f .0; whole = eqb-true room 1040 (f .1); inner = f .2 }
+  where
+    by : (a b c : Bool) → cond (not a) (Refused BadGeometry) (cond (not b) (Refused WrongBuffer) (cond (not c) (Refused OutsideMemory) Done)) ≡ Done → (a ≡ true) × (b ≡ true) × (c ≡ true)
+    by true true true e = (refl, refl, refl)
+    by true true false e = (refl, refl, cc)
+    by true false c e = (refl, cc, cc)
+    by false b c e = (cc, cc, cc)
+
+not-done : (why : Refusal) → Refused why ≡ Done → ⊥
+not-done why e = let no : suc zero ≡ zero = cc in omega arith
+
+module _ (address : ℕ) (lent rec : List ℕ) where
+  into-done : (j : Answer) (ops : List Insn) → formedInto j address ops lent ≡ (Done, rec) → (j ≡ Done) × (length ops ≡ 0 → ⊥) × (blockRecord address ops ≡ rec)
+  into-done (Refused why) ops e = absurd (not-done why (ap (λ (o : Answer × List ℕ). o .0) e))
+  into-done Done [] e = absurd (not-done NoOp (ap (λ (o : Answer × List ℕ). o .0) e))
+  into-done Done (first ∷ rest) e = (refl, λ z. (let none : suc (length rest) ≡ 0 = z in omega arith), ap (λ (o : Answer × List ℕ). o .1) e)
+
+  -- a block that was formed: forming might begin, it has ops, and its record was written
+  pub formed-done : (reading : Reading) (memory : List ℕ) (base : ℕ) → formCall reading memory base address lent ≡ (Done, rec)
+      → Begun (length memory) (length lent) base address × (length (formed reading memory base address) ≡ 0 → ⊥) × (blockRecord address (formed reading memory base address) ≡ rec)
+  unfolding formCall
+  formed-done reading memory base e =
+      let f = into-done (formJudged (length memory) (length lent) base address) (formed reading memory base address) e in
+      (begun (length memory) (length lent) base address (f .0), f .1, f .2)
