@@ -41,14 +41,14 @@ use denote.Triple.Table.{entered, cited}
 use denote.Triple.Walked.{says, Stays, stay-none, gave-slice, walkOf, goes-none, goes-gave-slice, ends-at, walked, walk-meets}
 use denote.Exit.{yes}
 use denote.Triple.Clauses.{ensured, lasts}
-use Rattle.form.specs.Forming.{rust}
-use Rattle.form.specs.Call.{formNumber, formCall}
-use Rattle.form.specs.declared.FormAnswer.{FormAnswer}
+use Rattle.decode.specs.Readings.{rust}
+use Rattle.form.specs.Call.{formCall}
+use Rattle.answer.specs.declared.Answer.{Answer}
 use Rattle.guest.specs.declared.GuestMemory.{GuestMemory}
 use Rattle.guest.proofs.GuestMemory as T
 use Rattle.guest.proofs.GuestMemory.Laws as T′
-use Rattle.form.proofs.FormAnswer as S
-use Rattle.form.proofs.FormAnswer.Laws as S′
+use Rattle.answer.proofs.Answer as S
+use Rattle.answer.proofs.Answer.Laws as S′
 use Rattle.guest.proofs.Apart.{bytes-val, View, Bytes, apart}
 use Rattle.form.proofs.form as step
 use Rattle.form.proofs.form.Symbol as step-def
@@ -95,8 +95,8 @@ module _ {M : Type 1} (𝓤 : URA M) (H : Heap 𝓤) (A : Atoms 𝓤) (W : Given
   vals = (mach ∷ [], (vint w64 a ∷ [], (s ∷ [], tt)))
 
   -- what is promised of an answer and a last list
-  abbrev Formed : FormAnswer → List ℕ → Type 0
-  Formed r ys = (formNumber r, ys) ≡ formCall rust (now (d .bytes)) (d .base) a (now x)
+  abbrev Formed : Answer → List ℕ → Type 0
+  Formed r ys = (r, ys) ≡ formCall rust (now (d .bytes)) (d .base) a (now x)
 
   abbrev Post : Val → SProp 𝓤
   Post = walkOf 𝓤 H A decode-block.ended stayed (decode-block.clauses 𝓤 H A mem run) .post ((κs, (q, (q′, tt)), tt, (d, (a, (x, tt))), vals), tt)
@@ -118,7 +118,7 @@ module _ {M : Type 1} (𝓤 : URA M) (H : Heap 𝓤) (A : Atoms 𝓤) (W : Given
       move ! (2 ∷ 0 ∷ []) $
       use2 W (raw (Form 𝓤 H A mem run .pre to)) (qed W ((‵ (flft κ q) ⊛ ‵ (flft κ′ q′) ⊛ ‵ ftrue) ∷ ‵ (owns (ShrSlice (named 0) κ u8 ∷ u64 ∷ u64 ∷ MutSlice (named 1) κ′ u8 ∷ []) (d .bytes, (d .base, (a, (x, tt)))) passed) ∷ []) ∵ join ! $ frame ! $ done !) $ frame ! $ done !
 
-  exits : (r : FormAnswer) (u : Val) (ys : List ℕ) → a < 2 ^ 64 → Formed r ys → length ys ≡ length (x .now)
+  exits : (r : Answer) (u : Val) (ys : List ℕ) → a < 2 ^ 64 → Formed r ys → length ys ≡ length (x .now)
       → ent 𝓤 (⋆ 𝓤 H A (‵ (S.the-row .own r (u ∷ [])) ∷ (‵ (flft κ q) ⊛ ‵ (flft κ′ q′) ⊛ ‵ ftrue) ∷ ‵ (finally u8 (x .name) ys) ∷ ‵ (View α d) ∷ [])) (Post u)
   exits r u ys ga e l =
       qed W (‵ (S.the-row .own r (u ∷ [])) ∷ (‵ (flft κ q) ⊛ ‵ (flft κ′ q′) ⊛ ‵ ftrue) ∷ ‵ (finally u8 (x .name) ys) ∷ ‵ (View α d) ∷ []) ∵
@@ -139,7 +139,7 @@ module _ {M : Type 1} (𝓤 : URA M) (H : Heap 𝓤) (A : Atoms 𝓤) (W : Given
         move ! (16 ∷ []) $ use1 W (raw (Form 𝓤 H A mem run .pre to) ⊛ ‵ (View α d)) (asked (wt .1 .1 .0 .fits) ga) $ split ! $
         -- [what the callee asks; what the view owns; _7; …]
         calls-at ! fm (Form 𝓤 H A mem run) known to (and-then ! (load ! (from ! (stop !)) (look ! 8 refl)) (and-then ! (load ! (from ! (stop !)) (look ! 6 refl)) (and-then ! (load ! (from ! (stop !)) (look ! 12 refl)) (and-then ! (load ! (from ! (stop !)) (look ! 2 refl)) (no-more !))))) (λ u.
-        use1 W (later (some (λ (r : FormAnswer). ((‵ (flft κ q) ⊛ ‵ (flft κ′ q′) ⊛ ‵ ftrue) ⊛ ‵ (S.the-row .own r (u ∷ []))) ⊛ raw (ensured 𝓤 H A step.ended (step.clauses 𝓤 H A mem run) κs (d .bytes, (d .base, (a, (x, tt)))) tt r)))) (id⊢ 𝓤 _) $ await ! tt $ pick ! (λ r.
+        use1 W (later (some (λ (r : Answer). ((‵ (flft κ q) ⊛ ‵ (flft κ′ q′) ⊛ ‵ ftrue) ⊛ ‵ (S.the-row .own r (u ∷ []))) ⊛ raw (ensured 𝓤 H A step.ended (step.clauses 𝓤 H A mem run) κs (d .bytes, (d .base, (a, (x, tt)))) tt r)))) (id⊢ 𝓤 _) $ await ! tt $ pick ! (λ r.
         -- what the callee ensures, at some last list
         split ! $ move ! (1 ∷ []) $ use1 W (some (λ (ys : Unit {0} × (Unit {0} × (Unit {0} × (List ℕ × Unit {0})))). ‵ (lasts step.ended κs (d .bytes, (d .base, (a, (x, tt)))) ys) ⊛ raw (fact 𝓤 (Formed r (ys .1 .1 .1 .0))))) (id⊢ 𝓤 _) $ pick ! (λ ys.
         split ! $ move ! (1 ∷ []) $ heard ! (Formed r (ys .1 .1 .1 .0)) (λ e. fsplit ! $ drop ! $ fsplit ! $ drop ! $ fsplit ! $ drop ! $ fsplit ! $ fsplit ! $ move ! (1 ∷ []) $ feqL ! (λ l.
