@@ -36,11 +36,11 @@ use denote.Triple.Walked.{says, Stays, stay-none, walkOf, goes-none, ends-at, wa
 use denote.Exit.{yes}
 use denote.Triple.Clauses.{Clauses, closing, ensured, lasts}
 use Rattle.guest.specs.declared.GuestMemory.{GuestMemory}
-use Rattle.guest.specs.declared.GuestRead.{GuestRead}
+use Rattle.answer.specs.declared.Valued.{Valued}
 use Rattle.guest.proofs.GuestMemory as T
 use Rattle.guest.proofs.GuestMemory.Laws as T′
-use Rattle.guest.proofs.GuestRead as S
-use Rattle.guest.proofs.GuestRead.Laws as S′
+use Rattle.answer.proofs.Valued as S
+use Rattle.answer.proofs.Valued.Laws as S′
 use Rattle.guest.proofs.Apart.{bytes-val, View, Bytes, apart}
 use Rattle.guest.proofs.halfword_of as step
 use Rattle.guest.proofs.halfword as reader
@@ -66,7 +66,7 @@ B κs = T.the-row (namedLft 1 0 tt κs)
 abbrev stayed : Stays (reader.ended .signature .params) (reader.ended .kept)
 stayed = (stay-none B yes, (stay-none (λ _. u64) yes, tt))
 
-module _ (read : List ℕ → ℕ → ℕ → GuestRead) {M : Type 1} (𝓤 : URA M) (H : Heap 𝓤) (A : Atoms 𝓤) where
+module _ (read : List ℕ → ℕ → ℕ → Valued) {M : Type 1} (𝓤 : URA M) (H : Heap 𝓤) (A : Atoms 𝓤) where
   -- what a reader promises, and what its callee does
   abbrev pub saying : Clauses 𝓤 reader.ended
   saying κs x = record { ghost = Unit {0}; requires = λ g. emp 𝓤; ensures = λ g r e. fact 𝓤 (r ≡ read (now (x .0 .bytes)) (x .0 .base) (x .1 .0)) }
@@ -84,7 +84,7 @@ module _ (read : List ℕ → ℕ → ℕ → GuestRead) {M : Type 1} (𝓤 : UR
     abbrev α : NamedLft
     α = namedLft 1 0 tt (κ, tt)
 
-    abbrev found : GuestRead
+    abbrev found : Valued
     found = read (now (d .bytes)) (d .base) a
 
     abbrev Post : Val → SProp 𝓤
@@ -107,10 +107,10 @@ module _ (read : List ℕ → ℕ → ℕ → GuestRead) {M : Type 1} (𝓤 : UR
         move ! (2 ∷ 0 ∷ []) $ use2 W (raw (Of .pre to)) (qed W ((‵ (flft κ q) ⊛ ‵ ftrue) ∷ ‵ (owns (ShrSlice (named 0) κ u8 ∷ u64 ∷ u64 ∷ []) (d .bytes, (d .base, (a, tt))) passed) ∷ []) ∵ join ! $ frame ! $ done !) $ frame ! $ done !
 
     -- of the callee's `ensured`, the clause alone: it has no `&mut`, so what is said of last values is dropped
-    said : (r : GuestRead) → ent 𝓤 (ensured 𝓤 H A step.ended of-saying (κ, tt) (d .bytes, (d .base, (a, tt))) tt r) (fact 𝓤 (r ≡ found))
+    said : (r : Valued) → ent 𝓤 (ensured 𝓤 H A step.ended of-saying (κ, tt) (d .bytes, (d .base, (a, tt))) tt r) (fact 𝓤 (r ≡ found))
     said r = exE 𝓤 _ (λ ws. snd∗ 𝓤 (sem 𝓤 H A (lasts step.ended (κ, tt) (d .bytes, (d .base, (a, tt))) ws)) (fact 𝓤 (r ≡ found)))
 
-    exits : (r : GuestRead) (u : Val) → a < 2 ^ 64 → r ≡ found → ent 𝓤 (⋆ 𝓤 H A (‵ (S.the-row .own r (u ∷ [])) ∷ (‵ (flft κ q) ⊛ ‵ ftrue) ∷ ‵ (View α d) ∷ [])) (Post u)
+    exits : (r : Valued) (u : Val) → a < 2 ^ 64 → r ≡ found → ent 𝓤 (⋆ 𝓤 H A (‵ (S.the-row .own r (u ∷ [])) ∷ (‵ (flft κ q) ⊛ ‵ ftrue) ∷ ‵ (View α d) ∷ [])) (Post u)
     exits r u ga e =
         qed W (‵ (S.the-row .own r (u ∷ [])) ∷ (‵ (flft κ q) ⊛ ‵ ftrue) ∷ ‵ (View α d) ∷ []) ∵
         suffices ! _ (ends-at 𝓤 H A reader.ended stayed saying W (((κ, tt), (q, tt), tt, (d, (a, tt)), (mach ∷ [], (vint w64 a ∷ [], tt))), tt) u r (tt, (tt, tt)) (tt, (tt, tt))) $ says ! e $
@@ -125,7 +125,7 @@ module _ (read : List ℕ → ℕ → ℕ → GuestRead) {M : Type 1} (𝓤 : UR
           assigns ! (of-opd ! (load ! (from ! (fld ! refl (stop !))) (look-in ! 6 (sub ! 1 refl (whole !))))) (from ! (stop !)) (init ! 0 refl (tt, wt .1 .1 .0)) $
           move ! (10 ∷ []) $ use1 W (raw (Of .pre to) ⊛ ‵ (View α d)) (asked (wt .1 .1 .0 .fits) ga) $ split ! $
           calls-at ! fm Of known to (and-then ! (load ! (from ! (stop !)) (look ! 4 refl)) (and-then ! (load ! (from ! (stop !)) (look ! 2 refl)) (and-then ! (load ! (from ! (stop !)) (look ! 6 refl)) (no-more !)))) (λ u.
-          use1 W (later (some (λ (r : GuestRead). ((‵ (flft κ q) ⊛ ‵ ftrue) ⊛ ‵ (S.the-row .own r (u ∷ []))) ⊛ raw (ensured 𝓤 H A step.ended of-saying (κ, tt) (d .bytes, (d .base, (a, tt))) tt r)))) (id⊢ 𝓤 _) $ await ! tt $ pick ! (λ r.
+          use1 W (later (some (λ (r : Valued). ((‵ (flft κ q) ⊛ ‵ ftrue) ⊛ ‵ (S.the-row .own r (u ∷ []))) ⊛ raw (ensured 𝓤 H A step.ended of-saying (κ, tt) (d .bytes, (d .base, (a, tt))) tt r)))) (id⊢ 𝓤 _) $ await ! tt $ pick ! (λ r.
           split ! $ move ! (1 ∷ []) $ use1 W (raw (fact 𝓤 (r ≡ found))) (said r) $ heard ! (r ≡ found) (λ e. split ! $ move ! (1 ∷ []) $
           -- [the result; the token; what the view owns; _4; …; _3; …; _2; …; _1; …; room for _0; …]
           peeks ! S.the-row (Is S.the-row) (shows 𝓤 H A S.the-row) r (u ∷ []) (λ is.

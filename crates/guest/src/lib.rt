@@ -5,16 +5,12 @@ ghost use Rattle.decode.specs.Readings.{rust};
 ghost use Rattle.form.specs.Call.{formCall};
 ghost use Rattle.guest.specs.Guest.{spans, readHalfword, readWord};
 use answer::Answer;
+use answer::Refusal;
+use answer::Valued;
 
 pub struct GuestMemory<'a> {
     pub bytes: &'a [u8],
     pub base: u64,
-}
-
-// What a reader finds: the number at an address, or that not all its bytes lie in memory.
-pub enum GuestRead {
-    Read(u32),
-    OutOfMemory,
 }
 
 // Whether so many bytes from an address on lie in memory.
@@ -34,24 +30,24 @@ fn spans(size: u64, base: u64, address: u64, count: u64) -> bool
 }
 
 // The readers' work. Odd addresses are read too.
-pub fn halfword_of(memory: &[u8], base: u64, address: u64) -> GuestRead
+pub fn halfword_of(memory: &[u8], base: u64, address: u64) -> Valued
     ensures { λ r. ⌜ r ≡ readHalfword (now (memory .entry)) base address ⌝ }
 {
     if spans(memory.len() as u64, base, address, 2) {
         let at = (address - base) as usize;
-        return GuestRead::Read(bits::halfword_at(memory, at) as u32);
+        return Valued::Value(bits::halfword_at(memory, at) as u64);
     }
-    GuestRead::OutOfMemory
+    Valued::NoValue(Refusal::OutsideMemory)
 }
 
-pub fn word_of(memory: &[u8], base: u64, address: u64) -> GuestRead
+pub fn word_of(memory: &[u8], base: u64, address: u64) -> Valued
     ensures { λ r. ⌜ r ≡ readWord (now (memory .entry)) base address ⌝ }
 {
     if spans(memory.len() as u64, base, address, 4) {
         let at = (address - base) as usize;
-        return GuestRead::Read(bits::word_at(memory, at));
+        return Valued::Value(bits::word_at(memory, at) as u64);
     }
-    GuestRead::OutOfMemory
+    Valued::NoValue(Refusal::OutsideMemory)
 }
 
 pub fn view<'a>(bytes: &'a [u8], base: u64) -> GuestMemory<'a>
@@ -60,13 +56,13 @@ pub fn view<'a>(bytes: &'a [u8], base: u64) -> GuestMemory<'a>
     GuestMemory { bytes, base }
 }
 
-pub fn halfword<'a>(memory: GuestMemory<'a>, address: u64) -> GuestRead
+pub fn halfword<'a>(memory: GuestMemory<'a>, address: u64) -> Valued
     ensures { λ r. ⌜ r ≡ readHalfword (now (memory .entry .bytes)) (memory .entry .base) address ⌝ }
 {
     halfword_of(memory.bytes, memory.base, address)
 }
 
-pub fn word<'a>(memory: GuestMemory<'a>, address: u64) -> GuestRead
+pub fn word<'a>(memory: GuestMemory<'a>, address: u64) -> Valued
     ensures { λ r. ⌜ r ≡ readWord (now (memory .entry .bytes)) (memory .entry .base) address ⌝ }
 {
     word_of(memory.bytes, memory.base, address)

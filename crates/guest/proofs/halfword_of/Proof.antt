@@ -4,7 +4,7 @@ use mathlib.Core.Path.{sym, ap, _∙_}
 use native.Mathlib.Omega.{arith}
 use lib.ListN.{length}
 use borrow.Author.Needs.{needs}
-use Rattle.guest.specs.declared.GuestRead.the-variants.{Read}
+use Rattle.answer.specs.declared.Valued.the-variants.{Value}
 use Rattle.guest.proofs.Spanned.{Spanned, spanned}
 use Rattle.guest.proofs.halfword_of.Statement.{statement}
 use Rattle.guest.proofs.halfword_of.Tie as tie
@@ -20,5 +20,5 @@ halfword-of-spec =
     (λ c. known c .above)
     (λ c κs. omega (arith, known c))
     (λ c. search needs)
-    (λ c. rw (sym (c .before .before .spans .ensures) ∙ c .before .if1 .taken) (ap Read (c .halfword-at .ensures)))
+    (λ c. rw (sym (c .before .before .spans .ensures) ∙ c .before .if1 .taken) (ap Value (c .halfword-at .ensures)))
     (λ c. rw (sym (c .before .spans .ensures) ∙ c .if1 .left)))
