@@ -1,5 +1,5 @@
 -- A view is taken apart: what it owns gives what its bytes own, and is kept. A view is Copy, so what it owns is had twice: one copy is opened, and the other stays whole for the exit.
--- Assumes `Given`.
+-- Assumes nothing: the kit's rules, `Given`, are an argument.
 use mathlib.Core.Path.{_≡_}
 use mathlib.Core.List.{[], _∷_}
 use lib.ListN.{length}

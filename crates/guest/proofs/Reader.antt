@@ -1,6 +1,6 @@
 -- A reader of guest memory meets its contract, whichever it is: a walk of its MIR, by hand. The view is taken apart, and the callee is called on the slice, the base and the address. All that the walk knows of the callee is that it meets its contract.
 -- A reader is told by `read`, what it finds, and the callee's name: `halfword` and `word` differ in nothing else.
--- Assumes nothing.
+-- Assumes nothing: the kit's rules, `Given`, are an argument.
 use mathlib.Core.Path.{_≡_, refl}
 use Prim.Native.Nat.{ℕ, _<_, _^_}
 use mathlib.Core.List.{List, [], _∷_}
