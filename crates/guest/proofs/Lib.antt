@@ -1,4 +1,3 @@
 -- What the crate's proofs share.
-pub mod Spanned
 pub mod Apart
 pub mod Reader

@@ -3,7 +3,7 @@
 ghost use mathlib.Core.Path.{_≡_};
 ghost use Rattle.decode.specs.Readings.{rust};
 ghost use Rattle.form.specs.Call.{formCall};
-ghost use Rattle.guest.specs.Guest.{spans, readHalfword, readWord};
+ghost use Rattle.guest.specs.Guest.{readHalfword, readWord};
 use answer::Answer;
 use answer::Refusal;
 use answer::Valued;
@@ -13,27 +13,11 @@ pub struct GuestMemory<'a> {
     pub base: u64,
 }
 
-// Whether so many bytes from an address on lie in memory.
-fn spans(size: u64, base: u64, address: u64, count: u64) -> bool
-    ensures { λ r. ⌜ r ≡ spans size base address count ⌝ }
-{
-    if address < base {
-        return false;
-    }
-    if size < count {
-        return false;
-    }
-    if size - count < address - base {
-        return false;
-    }
-    true
-}
-
 // The readers' work. Odd addresses are read too.
 pub fn halfword_of(memory: &[u8], base: u64, address: u64) -> Valued
     ensures { λ r. ⌜ r ≡ readHalfword (now (memory .entry)) base address ⌝ }
 {
-    if spans(memory.len() as u64, base, address, 2) {
+    if block::spans(memory.len() as u64, base, address, 2) {
         let at = (address - base) as usize;
         return Valued::Value(bits::halfword_at(memory, at) as u64);
     }
@@ -43,7 +27,7 @@ pub fn halfword_of(memory: &[u8], base: u64, address: u64) -> Valued
 pub fn word_of(memory: &[u8], base: u64, address: u64) -> Valued
     ensures { λ r. ⌜ r ≡ readWord (now (memory .entry)) base address ⌝ }
 {
-    if spans(memory.len() as u64, base, address, 4) {
+    if block::spans(memory.len() as u64, base, address, 4) {
         let at = (address - base) as usize;
         return Valued::Value(bits::word_at(memory, at) as u64);
     }
