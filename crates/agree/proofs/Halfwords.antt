@@ -71,15 +71,15 @@ Free w q f3 = (bitsAt w 0 2 ≡ q) × (bitsAt w 13 3 ≡ f3) × (listed halfEntr
 abbrev Alike : ℕ → ℕ → ℕ → Type 0
 Alike w q f3 = Free w q f3 → halfAt (q * 0x10 + f3) w ≡ halfBy q f3 w
 
--- where the row has one entry
-only : (x : Bool) → (x || false) ≡ false → x ≡ false
-only true h = h
-only false h = h
+-- what the row's entry asks does not hold
+not-asked : (x y : Bool) → (x || y) ≡ false → x ≡ false
+not-asked true y h = h
+not-asked false y h = refl
 
 -- C.ADDI16SP and C.LUI: an immediate is 0 exactly where its bits are
 not-both : (w : ℕ) (two : Bool) → Free w 1 3 → eqb (rd w) 2 ≡ two → bitsAt w 12 1 ≡ 0 → bitsAt w 2 5 ≡ 0 → ⊥
-not-both w true h e x y = true≢false (rw (h .0, h .1, e, x, y) at (h .2))
-not-both w false h e x y = true≢false (rw (h .0, h .1, e, x, y) at (h .2))
+not-both w true h e x y = true≢false (rw (h .0, h .1, x, y, e) at (h .2))
+not-both w false h e x y = true≢false (rw (h .0, h .1, x, y, e) at (h .2))
 
 pieces : (w : ℕ) → bitsAt w 2 5 ≡ bitsAt w 6 1 * 16 + bitsAt w 5 1 * 8 + bitsAt w 3 2 * 2 + bitsAt w 2 1
 pieces w =
@@ -130,7 +130,7 @@ jumps : (w : ℕ) → Alike w 2 4
 jumps w h =
     each 2 (λ bit. (eqb bit 0 && eqb (rs2 w) 0 && eqb (rd w) 0) ≡ false → cond (eqb bit 0) (rust.jrMv w) (rust.jalrAdd w) ≡ case bit (manual.jumps w) None)
     ((tt, kept (eqb (rs2 w) 0) (eqb (rd w) 0) _ _), λ h. rw (none-if (eqb (rd w) 0)))
-    (bitsAt w 12 1) (omega arith) (only (eqb (bitsAt w 12 1) 0 && eqb (rs2 w) 0 && eqb (rd w) 0) (rw (h .0, h .1) at (h .2)))
+    (bitsAt w 12 1) (omega arith) (not-asked (eqb (bitsAt w 12 1) 0 && eqb (rs2 w) 0 && eqb (rd w) 0) _ (rw (h .0, h .1) at (h .2)))
 
 quadrant0 : (w f3 : ℕ) → f3 < 8 → Alike w 0 f3
 quadrant0 w =
@@ -140,12 +140,12 @@ quadrant0 w =
 quadrant1 : (w f3 : ℕ) → f3 < 8 → Alike w 1 f3
 quadrant1 w =
     each 8 (Alike w 1)
-    ((((((((tt, λ h. rw (imm6 w)), λ h. rw (only (eqb (rd w) 0) (rw (h .0, h .1) at (h .2)), imm6 w)), λ h. rw (imm6 w)), wide w), misc w), λ h. rw (j w)), λ h. rw (b w)), λ h. rw (b w))
+    ((((((((tt, λ h. rw (imm6 w)), λ h. rw (not-asked (eqb (rd w) 0) _ (rw (h .0, h .1) at (h .2)), imm6 w)), λ h. rw (imm6 w)), wide w), misc w), λ h. rw (j w)), λ h. rw (b w)), λ h. rw (b w))
 
 quadrant2 : (w f3 : ℕ) → f3 < 8 → Alike w 2 f3
 quadrant2 w =
     each 8 (Alike w 2)
-    ((((((((tt, λ h. rw (imm6 w)), λ h. refl), λ h. rw (only (eqb (rd w) 0) (rw (h .0, h .1) at (h .2)), lwsp w)), λ h. rw (only (eqb (rd w) 0) (rw (h .0, h .1) at (h .2)), ldsp w)), jumps w), λ h. refl), λ h. rw (swsp w)), λ h. rw (sdsp w))
+    ((((((((tt, λ h. rw (imm6 w)), λ h. refl), λ h. rw (not-asked (eqb (rd w) 0) _ (rw (h .0, h .1) at (h .2)), lwsp w)), λ h. rw (not-asked (eqb (rd w) 0) _ (rw (h .0, h .1) at (h .2)), ldsp w)), jumps w), λ h. refl), λ h. rw (swsp w)), λ h. rw (sdsp w))
 
 quadrant3 : (w f3 : ℕ) → f3 < 8 → Alike w 3 f3
 quadrant3 w = each 8 (Alike w 3) ((((((((tt, λ h. refl), λ h. refl), λ h. refl), λ h. refl), λ h. refl), λ h. refl), λ h. refl), λ h. refl)
@@ -157,12 +157,12 @@ pub agree : (w : ℕ) → listed halfEntries w ≡ false → rustHalf w ≡ manu
 agree w e = alike w (bitsAt w 0 2) (bitsAt w 13 3) (omega arith) (omega arith) (refl, refl, e)
 
 -- an entry's row in both readings, where what it asks there holds
-abbrev AtRow : ℕ → ℕ → ℕ → Decoded → Type 0
-AtRow q f3 w answer = (halfAt (q * 0x10 + f3) w ≡ answer) × (halfBy q f3 w ≡ None)
+abbrev AtRow : ℕ → ℕ → ℕ → Decoded → Decoded → Type 0
+AtRow q f3 w rust manual = (halfAt (q * 0x10 + f3) w ≡ rust) × (halfBy q f3 w ≡ manual)
 
-at-row : (q f3 : ℕ) (asked : ℕ → Bool) (answer : ℕ → Decoded) → ((w : ℕ) → asked w ≡ true → AtRow q f3 w (answer w))
-    → (w : ℕ) → row q f3 asked w ≡ true → (rustHalf w ≡ answer w) × (manualHalf w ≡ None)
-at-row q f3 asked answer shown w h = let k = fields (bitsAt w 0 2) q (bitsAt w 13 3) f3 (asked w) h in rw (k .0, k .1) (shown w (k .2))
+at-row : (q f3 : ℕ) (asked : ℕ → Bool) (rust manual : ℕ → Decoded) → ((w : ℕ) → asked w ≡ true → AtRow q f3 w (rust w) (manual w))
+    → (w : ℕ) → row q f3 asked w ≡ true → (rustHalf w ≡ rust w) × (manualHalf w ≡ manual w)
+at-row q f3 asked rust manual shown w h = let k = fields (bitsAt w 0 2) q (bitsAt w 13 3) f3 (asked w) h in rw (k .0, k .1) (shown w (k .2))
 
 no-imm : (w : ℕ) → imm0 w ≡ true → (manual.addi16sp w ≡ 0) × (manual.lui w ≡ 0)
 no-imm w h =
@@ -172,12 +172,12 @@ no-imm w h =
     let s = pieces w in
     (omega arith, omega arith)
 
-addi16sp-0 : (w : ℕ) → (eqb (rd w) 2 && imm0 w) ≡ true → AtRow 1 3 w (Some (AluImm Add 2 2 (pos 0)))
+addi16sp-0 : (w : ℕ) → (eqb (rd w) 2 && imm0 w) ≡ true → AtRow 1 3 w (Some (AluImm Add 2 2 (pos 0))) None
 addi16sp-0 w h =
     let k = and-both (eqb (rd w) 2) (imm0 w) h in
     rw (k .0, addi16sp w, no-imm w (k .1) .0) (refl, refl)
 
-lui-0 : (w : ℕ) → (not (eqb (rd w) 2) && imm0 w) ≡ true → AtRow 1 3 w (Some (Lui (rd w) (pos 0)))
+lui-0 : (w : ℕ) → (not (eqb (rd w) 2) && imm0 w) ≡ true → AtRow 1 3 w (Some (Lui (rd w) (pos 0))) None
 lui-0 w h =
     let k = and-both (not (eqb (rd w) 2)) (imm0 w) h in
     rw (is-false (eqb (rd w) 2) (k .0), lui w, no-imm w (k .1) .1) (refl, refl)
@@ -186,11 +186,11 @@ lui-0 w h =
     is-false true h = sym h
     is-false false h = refl
 
-jr-0 : (w : ℕ) → (eqb (bitsAt w 12 1) 0 && eqb (rs2 w) 0 && eqb (rd w) 0) ≡ true → AtRow 2 4 w (Some (Jalr 0 0 (pos 0)))
+jr-0 : (w : ℕ) → (eqb (bitsAt w 12 1) 0 && eqb (rs2 w) 0 && eqb (rd w) 0) ≡ true → AtRow 2 4 w (Some (Jalr 0 0 (pos 0))) None
 jr-0 w h = let k = fields (bitsAt w 12 1) 0 (rs2 w) 0 (eqb (rd w) 0) h in rw (k .0, k .1, eqb-true (rd w) 0 (k .2)) (refl, refl)
 
 pub told : Told halfEntries rustHalf manualHalf
-told = (refl, at-row 1 1 _ _ (λ w h. rw (eqb-true (rd w) 0 h) (refl, refl)), (refl, at-row 1 3 _ _ addi16sp-0, (refl, at-row 1 3 _ _ lui-0, (refl, at-row 2 2 _ _ (λ w h. rw (eqb-true (rd w) 0 h) (refl, refl)), (refl, at-row 2 3 _ _ (λ w h. rw (eqb-true (rd w) 0 h) (refl, refl)), (refl, at-row 2 4 _ _ jr-0, tt))))))
+told = (refl, at-row 1 1 _ _ _ (λ w h. rw (eqb-true (rd w) 0 h) (refl, refl)), (refl, at-row 1 3 _ _ _ addi16sp-0, (refl, at-row 1 3 _ _ _ lui-0, (refl, at-row 2 2 _ _ _ (λ w h. rw (eqb-true (rd w) 0 h) (refl, refl)), (refl, at-row 2 3 _ _ _ (λ w h. rw (eqb-true (rd w) 0 h) (refl, refl)), (refl, at-row 2 4 _ _ _ jr-0, tt))))))
 
 pub differ : (w : ℕ) → listed halfEntries w ≡ true → rustHalf w ≡ manualHalf w → ⊥
 differ w = differ-by rustHalf manualHalf halfEntries told w tt
