@@ -1,22 +1,21 @@
 -- At every halfword of an entry the Rust and the manual read what the entry says, and outside the entries they read each halfword alike.
 -- The quadrant and funct3 pick a row in each reading; row by row the manual's figures give the Rust's sums.
 -- Assumes nothing.
-use mathlib.Core.Path.{_≡_, refl, sym, _∙_}
-use mathlib.Core.Bool.{Bool, true, false, cond, not, _&&_, _||_, true≢false, false≢true}
+use mathlib.Core.Path.{_≡_, refl, sym}
+use mathlib.Core.Bool.{Bool, true, false, cond, not, _&&_, _||_, true≢false}
 use Prim.Native.Nat.{ℕ, _+_, _*_, _/_, _<_}
 use native.Mathlib.Nat.{div-div-eq-div-mul}
 use native.Mathlib.Omega.{arith}
 use lib.Dec.{eqb}
 use lib.IntN.{pos}
-use borrow.Author.Tests.{eq-eqb, ne-eqb, eqb-true}
-use Rattle.bits.specs.Bits.{bitsAt, signed}
+use borrow.Author.Tests.{ne-eqb, eqb-true}
+use Rattle.bits.specs.Bits.{bitsAt}
 use Rattle.bits.specs.Match.{case}
 use Rattle.bits.proofs.Every.{each}
 use Rattle.bits.proofs.Tests.{and-both}
-use Rattle.op.specs.declared.AluKind.the-variants.{Add, Addw}
-use Rattle.op.specs.declared.LoadKind.the-variants.{Lw, Ld}
+use Rattle.op.specs.declared.AluKind.the-variants.{Add}
 use Rattle.op.specs.declared.Op.{Op}
-use Rattle.op.specs.declared.Op.the-variants.{Lui, AluImm, Load, Jalr}
+use Rattle.op.specs.declared.Op.the-variants.{Lui, AluImm, Jalr}
 use Rattle.op.specs.declared.Decoded.{Decoded}
 use Rattle.op.specs.declared.Decoded.the-variants.{Some, None}
 use Rattle.halfword.specs.Instruction.{rd, rs2}

@@ -2,7 +2,7 @@
 -- Both formats are functions of opcode, funct3, bits 31 to 25 and bits 24 to 20. antt computes the test `right` at the numbers that
 -- decide, with the fields that do not matter left open.
 -- Assumes nothing.
-use mathlib.Core.Path.{_≡_, refl, ap, sym, _∙_}
+use mathlib.Core.Path.{_≡_, refl, ap, _∙_}
 use mathlib.Core.Bool.{Bool, true, false, not, _||_, _&&_}
 use mathlib.Core.List.{List, [], _∷_}
 use Prim.Native.Nat.{ℕ, _+_, _*_, _/_, _%_, _^_, _<_}
@@ -15,7 +15,7 @@ use Rattle.bits.proofs.Every.{every, at, at-three, decide}
 use Rattle.word.specs.declared.Form.{Form}
 use Rattle.word.specs.Word as rust
 use Rattle.word.specs.Word.{formBy, formOf, rustWord}
-use Rattle.manual.specs.Words.{Format, formatBy, formatOf, manualWord, opOf}
+use Rattle.manual.specs.Words.{Format, formatBy, manualWord, opOf}
 use Rattle.agree.specs.Differences.{listed, Told, amended, imm, reg, wordEntries}
 use Rattle.agree.proofs.Entries.{fields, differ-by, manual-by}
 use Rattle.agree.proofs.Formats.{named, operands, same, same-is}
@@ -45,7 +45,7 @@ by-funct3 : (f7 rs2 : ℕ) → T (every 8 (λ f3. right 0x03 f3 f7 rs2 && right 
 unfolding right formBy formatBy
 by-funct3 f7 rs2 = tt
 
--- the pairs of funct3 and bits 31 to 25 at which bits 24 to 20 matter, by opcode
+-- the pairs of funct3 and bits 31 to 25 at which bits 24 to 20 matter or an entry stands, by opcode
 abbrev hard13 : ℕ → ℕ → Bool
 hard13 f3 f7 = (eqb f3 1 && among f7 (0x30 ∷ 0x31 ∷ 0x34 ∷ 0x35 ∷ [])) || (eqb f3 5 && among f7 (0x28 ∷ 0x29 ∷ 0x6a ∷ 0x6b ∷ 0x14 ∷ 0x35 ∷ []))
 
