@@ -1,9 +1,10 @@
 // The C door: what the Rust core, or a C program, links. Each function is the call behind it on numbers and byte slices, promises what that call
 // promises, by the same definition, and asks nothing of its caller. include/unvriscol.h declares them in this order.
 ghost use mathlib.Core.Path.{_≡_};
+ghost use Rattle.answer.specs.Answer.{answerNumber};
+ghost use Rattle.decode.specs.Readings.{rust};
 ghost use Rattle.decode.specs.Call.{wordCall, halfCall};
 ghost use Rattle.alu.specs.Call.{aluCall};
-ghost use Rattle.form.specs.Forming.{rust};
 ghost use Rattle.form.specs.Call.{formCall};
 ghost use Rattle.cache.specs.Answers.{makeNumber, lookupNumber, lookupValue, insertNumber, noticeNumber, noticeValue, flushNumber, generationNumber, generationValue};
 ghost use Rattle.cache.specs.Calls.{makeCall, lookupCall, insertCall, noticeCall, flushCall, generationCall};
@@ -20,7 +21,7 @@ pub struct Answer {
 // Decodes a word into the lent op record.
 #[no_mangle]
 pub extern "C" fn uv_decode_word(raw: u32, lent: &mut [u8]) -> u64
-    ensures { λ r. ⌜ (r, now (lent .exit)) ≡ wordCall raw (now (lent .entry)) ⌝ }
+    ensures { λ r. ⌜ (r, now (lent .exit)) ≡ seen answerNumber (wordCall rust raw (now (lent .entry))) ⌝ }
 {
     let answer = decode::decode_word(raw, lent);
     answer.number()
@@ -29,7 +30,7 @@ pub extern "C" fn uv_decode_word(raw: u32, lent: &mut [u8]) -> u64
 // Decodes a halfword into the lent op record.
 #[no_mangle]
 pub extern "C" fn uv_decode_halfword(raw: u16, lent: &mut [u8]) -> u64
-    ensures { λ r. ⌜ (r, now (lent .exit)) ≡ halfCall raw (now (lent .entry)) ⌝ }
+    ensures { λ r. ⌜ (r, now (lent .exit)) ≡ seen answerNumber (halfCall rust raw (now (lent .entry))) ⌝ }
 {
     let answer = decode::decode_halfword(raw, lent);
     answer.number()
@@ -49,7 +50,7 @@ pub extern "C" fn uv_alu(kind: u64, lhs: u64, rhs: u64) -> Answer
 // Forms the block at an address of guest memory into the lent block record.
 #[no_mangle]
 pub extern "C" fn uv_form(memory: &[u8], base: u64, address: u64, lent: &mut [u8]) -> u64
-    ensures { λ r. ⌜ (r, now (lent .exit)) ≡ formCall rust (now (memory .entry)) base address (now (lent .entry)) ⌝ }
+    ensures { λ r. ⌜ (r, now (lent .exit)) ≡ seen answerNumber (formCall rust (now (memory .entry)) base address (now (lent .entry))) ⌝ }
 {
     let answer = form::form(memory, base, address, lent);
     answer.number()
