@@ -1,19 +1,16 @@
--- The Rust's forms and the manual's formats: when they are one, and when every word that has them has different ops.
+-- The Rust's forms and the manual's formats: what they make of a word, and when they are one.
 -- Assumes nothing.
 use mathlib.Core.Path.{_≡_, refl, sym, ap, _∙_}
-use mathlib.Core.Bool.{Bool, true, false, not, _&&_}
+use mathlib.Core.Bool.{Bool, _&&_}
 use mathlib.Core.List.{[], _∷_}
-use Prim.Native.Nat.{ℕ, suc, _+_, _*_, _^_}
+use Prim.Native.Nat.{ℕ, _+_, _*_, _^_}
 use native.Mathlib.Omega.{arith}
-use lib.Dec.{T, eqb, eqb→eq, eqb-refl}
+use lib.Dec.{T, eqb, eqb→eq}
 use lib.ListN.{getD}
 use Rattle.bits.specs.Bits.{bitsAt, signed}
 use Rattle.bits.specs.Match.{_⇒_, case}
 use Rattle.bits.proofs.Every.{both}
 use Rattle.op.specs.Kinds.{aluKinds, aluNumber, loadKinds, loadNumber, storeKinds, storeNumber, branchKinds, branchNumber}
-use Rattle.op.specs.Record.{opFields}
-use Rattle.op.specs.declared.Decoded.{Decoded}
-use Rattle.op.specs.declared.Decoded.the-variants.{Some, None}
 use Rattle.op.specs.declared.AluKind.the-variants.{Add}
 use Rattle.op.specs.declared.LoadKind.the-variants.{Lb}
 use Rattle.op.specs.declared.StoreKind.the-variants.{Sb}
@@ -138,36 +135,3 @@ same-is a b t =
     let s : shape a ≡ shape b = eqb→eq (shape a) (shape b) (h .0) in
     let k : kind a ≡ kind b = eqb→eq (kind a) (kind b) (h .1) in
     sym (made-is a) ∙ ap (λ (n : ℕ). made n (kind a)) s ∙ ap (made (shape b)) k ∙ made-is b
-
--- what tells two ops apart whatever their operands are: the op's number and its kind
-abbrev stamp : Decoded → ℕ
-stamp None = 0
-stamp (Some op) = suc (opFields op .op) * 64 + opFields op .kind
-
-stamp-is : (w : ℕ) (f : Format) → stamp (manual.opOf w f) ≡ stamp (manual.opOf 0 f)
-stamp-is w Reserved = refl
-stamp-is w LUI = refl
-stamp-is w AUIPC = refl
-stamp-is w JAL = refl
-stamp-is w JALR = refl
-stamp-is w (B k) = refl
-stamp-is w (L k) = refl
-stamp-is w (S k) = refl
-stamp-is w (I k) = refl
-stamp-is w (I6 k) = refl
-stamp-is w (I5 k) = refl
-stamp-is w (I0 k) = refl
-stamp-is w (R k) = refl
-
-abbrev pub apart : Format → Format → Bool
-apart a b = not (eqb (stamp (manual.opOf 0 a)) (stamp (manual.opOf 0 b)))
-
-refuted : (x y : ℕ) → x ≡ y → T (not (eqb x y)) → ⊥
-refuted x y p = rw p (λ t. no (eqb y y) (eqb-refl y) t)
-  where
-    no : (a : Bool) → T a → T (not a) → ⊥
-    no true s t = t
-    no false s t = s
-
-pub apart-is : (w : ℕ) (a b : Format) → T (apart a b) → manual.opOf w a ≡ manual.opOf w b → ⊥
-apart-is w a b t e = refuted (stamp (manual.opOf 0 a)) (stamp (manual.opOf 0 b)) (sym (stamp-is w a) ∙ ap stamp e ∙ stamp-is w b) t

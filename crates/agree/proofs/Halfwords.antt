@@ -1,18 +1,21 @@
--- Outside the entries the Rust and the manual read each halfword alike, and at every halfword of an entry they differ.
+-- At every halfword of an entry the Rust and the manual read what the entry says, and outside the entries they read each halfword alike.
 -- The quadrant and funct3 pick a row in each reading; row by row the manual's figures give the Rust's sums.
 -- Assumes nothing.
-use mathlib.Core.Path.{_≡_, refl, sym, _∙_}
-use mathlib.Core.Bool.{Bool, true, false, cond, _&&_, true≢false, false≢true}
+use mathlib.Core.Path.{_≡_, refl, sym}
+use mathlib.Core.Bool.{Bool, true, false, cond, not, _&&_, _||_, true≢false}
 use Prim.Native.Nat.{ℕ, _+_, _*_, _/_, _<_}
 use native.Mathlib.Nat.{div-div-eq-div-mul}
 use native.Mathlib.Omega.{arith}
 use lib.Dec.{eqb}
-use borrow.Author.Tests.{eq-eqb, ne-eqb, eqb-true}
+use lib.IntN.{pos}
+use borrow.Author.Tests.{ne-eqb, eqb-true}
 use Rattle.bits.specs.Bits.{bitsAt}
 use Rattle.bits.specs.Match.{case}
 use Rattle.bits.proofs.Every.{each}
 use Rattle.bits.proofs.Tests.{and-both}
+use Rattle.op.specs.declared.AluKind.the-variants.{Add}
 use Rattle.op.specs.declared.Op.{Op}
+use Rattle.op.specs.declared.Op.the-variants.{Lui, AluImm, Jalr}
 use Rattle.op.specs.declared.Decoded.{Decoded}
 use Rattle.op.specs.declared.Decoded.the-variants.{Some, None}
 use Rattle.halfword.specs.Instruction.{rd, rs2}
@@ -20,7 +23,8 @@ use Rattle.halfword.specs.Halfword as rust
 use Rattle.halfword.specs.Halfword.{halfAt, rustHalf}
 use Rattle.manual.specs.Halfwords as manual
 use Rattle.manual.specs.Halfwords.{halfBy, manualHalf}
-use Rattle.agree.specs.Differences.{halfPartsBy, halfParts}
+use Rattle.agree.specs.Differences.{listed, Told, amended, row, imm0, halfEntries}
+use Rattle.agree.proofs.Entries.{fields, differ-by, manual-by}
 
 -- the figures
 addi4spn : (w : ℕ) → rust.nzuimmAddi4spn w ≡ manual.addi4spn w
@@ -59,12 +63,22 @@ swsp w = omega arith
 sdsp : (w : ℕ) → rust.uimmSdsp w ≡ manual.sdsp w
 sdsp w = omega arith
 
+-- a halfword of this row that no entry covers
+abbrev Free : ℕ → ℕ → ℕ → Type 0
+Free w q f3 = (bitsAt w 0 2 ≡ q) × (bitsAt w 13 3 ≡ f3) × (listed halfEntries w ≡ false)
+
 abbrev Alike : ℕ → ℕ → ℕ → Type 0
-Alike w q f3 = halfPartsBy q f3 w ≡ false → halfAt (q * 0x10 + f3) w ≡ halfBy q f3 w
+Alike w q f3 = Free w q f3 → halfAt (q * 0x10 + f3) w ≡ halfBy q f3 w
+
+-- what the row's entry asks does not hold
+not-asked : (x y : Bool) → (x || y) ≡ false → x ≡ false
+not-asked true y h = h
+not-asked false y h = refl
 
 -- C.ADDI16SP and C.LUI: an immediate is 0 exactly where its bits are
-not-both : (x y : ℕ) → (eqb x 0 && eqb y 0) ≡ false → x ≡ 0 → y ≡ 0 → ⊥
-not-both x y h p q = true≢false (rw (p, q) at h)
+not-both : (w : ℕ) (two : Bool) → Free w 1 3 → eqb (rd w) 2 ≡ two → bitsAt w 12 1 ≡ 0 → bitsAt w 2 5 ≡ 0 → ⊥
+not-both w true h e x y = true≢false (rw (h .0, h .1, x, y, e) at (h .2))
+not-both w false h e x y = true≢false (rw (h .0, h .1, x, y, e) at (h .2))
 
 pieces : (w : ℕ) → bitsAt w 2 5 ≡ bitsAt w 6 1 * 16 + bitsAt w 5 1 * 8 + bitsAt w 3 2 * 2 + bitsAt w 2 1
 pieces w =
@@ -77,7 +91,7 @@ pieces w =
 
 wide : (w : ℕ) → Alike w 1 3
 wide w h =
-    let n = not-both (bitsAt w 12 1) (bitsAt w 2 5) h in
+    let n = not-both w (eqb (rd w) 2) h refl in
     let s = pieces w in
     let a : manual.addi16sp w ≡ 0 → ⊥ = λ e. n (omega arith) (omega arith) in
     let u : manual.lui w ≡ 0 → ⊥ = λ e. n (omega arith) (omega arith) in
@@ -112,10 +126,10 @@ kept true false op other h = refl
 kept false y op other h = refl
 
 jumps : (w : ℕ) → Alike w 2 4
-jumps w =
+jumps w h =
     each 2 (λ bit. (eqb bit 0 && eqb (rs2 w) 0 && eqb (rd w) 0) ≡ false → cond (eqb bit 0) (rust.jrMv w) (rust.jalrAdd w) ≡ case bit (manual.jumps w) None)
     ((tt, kept (eqb (rs2 w) 0) (eqb (rd w) 0) _ _), λ h. rw (none-if (eqb (rd w) 0)))
-    (bitsAt w 12 1) (omega arith)
+    (bitsAt w 12 1) (omega arith) (not-asked (eqb (bitsAt w 12 1) 0 && eqb (rs2 w) 0 && eqb (rd w) 0) _ (rw (h .0, h .1) at (h .2)))
 
 quadrant0 : (w f3 : ℕ) → f3 < 8 → Alike w 0 f3
 quadrant0 w =
@@ -125,55 +139,12 @@ quadrant0 w =
 quadrant1 : (w f3 : ℕ) → f3 < 8 → Alike w 1 f3
 quadrant1 w =
     each 8 (Alike w 1)
-    ((((((((tt, λ h. rw (imm6 w)), λ h. rw (h, imm6 w)), λ h. rw (imm6 w)), wide w), misc w), λ h. rw (j w)), λ h. rw (b w)), λ h. rw (b w))
+    ((((((((tt, λ h. rw (imm6 w)), λ h. rw (not-asked (eqb (rd w) 0) _ (rw (h .0, h .1) at (h .2)), imm6 w)), λ h. rw (imm6 w)), wide w), misc w), λ h. rw (j w)), λ h. rw (b w)), λ h. rw (b w))
 
 quadrant2 : (w f3 : ℕ) → f3 < 8 → Alike w 2 f3
 quadrant2 w =
     each 8 (Alike w 2)
-    ((((((((tt, λ h. rw (imm6 w)), λ h. refl), λ h. rw (h, lwsp w)), λ h. rw (h, ldsp w)), jumps w), λ h. refl), λ h. rw (swsp w)), λ h. rw (sdsp w))
-
--- at a listed halfword the Rust has an op, and the manual none
-abbrev Apart : ℕ → ℕ → ℕ → Type 0
-Apart w q f3 = halfPartsBy q f3 w ≡ true → halfAt (q * 0x10 + f3) w ≡ halfBy q f3 w → ⊥
-
-some-none : {op : Op} → Some op ≡ None → ⊥
-some-none e = let z : _≡_ {A = ℕ} 0 1 = cc in omega arith
-
-never : (w q f3 : ℕ) → halfPartsBy q f3 w ≡ false → Apart w q f3
-never w q f3 e h = absurd (false≢true (sym e ∙ h))
-
-one-of : (c : Bool) (p q : Op) → cond c (Some p) (Some q) ≡ cond c None None → ⊥
-one-of true p q = some-none
-one-of false p q = some-none
-
-wide-apart : (w : ℕ) → Apart w 1 3
-wide-apart w h d =
-    let k = and-both (eqb (bitsAt w 12 1) 0) (eqb (bitsAt w 2 5) 0) h in
-    let x = eqb-true (bitsAt w 12 1) 0 (k .0) in
-    let y = eqb-true (bitsAt w 2 5) 0 (k .1) in
-    let s = pieces w in
-    let a : manual.addi16sp w ≡ 0 = omega arith in
-    let u : manual.lui w ≡ 0 = omega arith in
-    one-of (eqb (rd w) 2) _ _ (rw (eq-eqb (manual.addi16sp w) 0 a, eq-eqb (manual.lui w) 0 u) at d)
-
-jumps-apart : (w : ℕ) → Apart w 2 4
-jumps-apart w h d =
-    let k = and-both (eqb (bitsAt w 12 1) 0 && eqb (rs2 w) 0) (eqb (rd w) 0) h in
-    let l = and-both (eqb (bitsAt w 12 1) 0) (eqb (rs2 w) 0) (k .0) in
-    some-none (rw (eqb-true (bitsAt w 12 1) 0 (l .0), l .1, k .1) at d)
-
-differ1 : (w f3 : ℕ) → f3 < 8 → Apart w 1 f3
-differ1 w =
-    each 8 (Apart w 1)
-    ((((((((tt, never w 1 0 refl), λ h d. some-none (rw h at d)), never w 1 2 refl), wide-apart w), never w 1 4 refl), never w 1 5 refl), never w 1 6 refl), never w 1 7 refl)
-
-differ2 : (w f3 : ℕ) → f3 < 8 → Apart w 2 f3
-differ2 w =
-    each 8 (Apart w 2)
-    ((((((((tt, never w 2 0 refl), never w 2 1 refl), λ h d. some-none (rw h at d)), λ h d. some-none (rw h at d)), jumps-apart w), never w 2 5 refl), never w 2 6 refl), never w 2 7 refl)
-
-apart : (w q f3 : ℕ) → q < 4 → f3 < 8 → Apart w q f3
-apart w q f3 hq h3 = each 4 (λ q. Apart w q f3) ((((tt, never w 0 f3 refl), differ1 w f3 h3), differ2 w f3 h3), never w 3 f3 refl) q hq
+    ((((((((tt, λ h. rw (imm6 w)), λ h. refl), λ h. rw (not-asked (eqb (rd w) 0) _ (rw (h .0, h .1) at (h .2)), lwsp w)), λ h. rw (not-asked (eqb (rd w) 0) _ (rw (h .0, h .1) at (h .2)), ldsp w)), jumps w), λ h. refl), λ h. rw (swsp w)), λ h. rw (sdsp w))
 
 quadrant3 : (w f3 : ℕ) → f3 < 8 → Alike w 3 f3
 quadrant3 w = each 8 (Alike w 3) ((((((((tt, λ h. refl), λ h. refl), λ h. refl), λ h. refl), λ h. refl), λ h. refl), λ h. refl), λ h. refl)
@@ -181,8 +152,47 @@ quadrant3 w = each 8 (Alike w 3) ((((((((tt, λ h. refl), λ h. refl), λ h. ref
 alike : (w q f3 : ℕ) → q < 4 → f3 < 8 → Alike w q f3
 alike w q f3 hq h3 = each 4 (λ q. Alike w q f3) ((((tt, quadrant0 w f3 h3), quadrant1 w f3 h3), quadrant2 w f3 h3), quadrant3 w f3 h3) q hq
 
-pub agree : (w : ℕ) → halfParts w ≡ false → rustHalf w ≡ manualHalf w
-agree w = alike w (bitsAt w 0 2) (bitsAt w 13 3) (omega arith) (omega arith)
+pub agree : (w : ℕ) → listed halfEntries w ≡ false → rustHalf w ≡ manualHalf w
+agree w e = alike w (bitsAt w 0 2) (bitsAt w 13 3) (omega arith) (omega arith) (refl, refl, e)
 
-pub differ : (w : ℕ) → halfParts w ≡ true → rustHalf w ≡ manualHalf w → ⊥
-differ w = apart w (bitsAt w 0 2) (bitsAt w 13 3) (omega arith) (omega arith)
+-- an entry's row in both readings, where what it asks there holds
+abbrev AtRow : ℕ → ℕ → ℕ → Decoded → Decoded → Type 0
+AtRow q f3 w rust manual = (halfAt (q * 0x10 + f3) w ≡ rust) × (halfBy q f3 w ≡ manual)
+
+at-row : (q f3 : ℕ) (asked : ℕ → Bool) (rust manual : ℕ → Decoded) → ((w : ℕ) → asked w ≡ true → AtRow q f3 w (rust w) (manual w))
+    → (w : ℕ) → row q f3 asked w ≡ true → (rustHalf w ≡ rust w) × (manualHalf w ≡ manual w)
+at-row q f3 asked rust manual shown w h = let k = fields (bitsAt w 0 2) q (bitsAt w 13 3) f3 (asked w) h in rw (k .0, k .1) (shown w (k .2))
+
+no-imm : (w : ℕ) → imm0 w ≡ true → (manual.addi16sp w ≡ 0) × (manual.lui w ≡ 0)
+no-imm w h =
+    let k = and-both (eqb (bitsAt w 12 1) 0) (eqb (bitsAt w 2 5) 0) h in
+    let x = eqb-true (bitsAt w 12 1) 0 (k .0) in
+    let y = eqb-true (bitsAt w 2 5) 0 (k .1) in
+    let s = pieces w in
+    (omega arith, omega arith)
+
+addi16sp-0 : (w : ℕ) → (eqb (rd w) 2 && imm0 w) ≡ true → AtRow 1 3 w (Some (AluImm Add 2 2 (pos 0))) None
+addi16sp-0 w h =
+    let k = and-both (eqb (rd w) 2) (imm0 w) h in
+    rw (k .0, addi16sp w, no-imm w (k .1) .0) (refl, refl)
+
+lui-0 : (w : ℕ) → (not (eqb (rd w) 2) && imm0 w) ≡ true → AtRow 1 3 w (Some (Lui (rd w) (pos 0))) None
+lui-0 w h =
+    let k = and-both (not (eqb (rd w) 2)) (imm0 w) h in
+    rw (is-false (eqb (rd w) 2) (k .0), lui w, no-imm w (k .1) .1) (refl, refl)
+  where
+    is-false : (b : Bool) → not b ≡ true → b ≡ false
+    is-false true h = sym h
+    is-false false h = refl
+
+jr-0 : (w : ℕ) → (eqb (bitsAt w 12 1) 0 && eqb (rs2 w) 0 && eqb (rd w) 0) ≡ true → AtRow 2 4 w (Some (Jalr 0 0 (pos 0))) None
+jr-0 w h = let k = fields (bitsAt w 12 1) 0 (rs2 w) 0 (eqb (rd w) 0) h in rw (k .0, k .1, eqb-true (rd w) 0 (k .2)) (refl, refl)
+
+pub told : Told halfEntries rustHalf manualHalf
+told = (refl, at-row 1 1 _ _ _ (λ w h. rw (eqb-true (rd w) 0 h) (refl, refl)), (refl, at-row 1 3 _ _ _ addi16sp-0, (refl, at-row 1 3 _ _ _ lui-0, (refl, at-row 2 2 _ _ _ (λ w h. rw (eqb-true (rd w) 0 h) (refl, refl)), (refl, at-row 2 3 _ _ _ (λ w h. rw (eqb-true (rd w) 0 h) (refl, refl)), (refl, at-row 2 4 _ _ _ jr-0, tt))))))
+
+pub differ : (w : ℕ) → listed halfEntries w ≡ true → rustHalf w ≡ manualHalf w → ⊥
+differ w = differ-by rustHalf manualHalf halfEntries told w tt
+
+pub manual-is : (w : ℕ) → manualHalf w ≡ amended halfEntries rustHalf w
+manual-is w = manual-by rustHalf manualHalf halfEntries told w (agree w)

@@ -1,9 +1,11 @@
--- The theorems: `agree` and `differ` of words and of halfwords, and `agree` of the ALU, where no difference is known.
+-- The theorems: of words and of halfwords that the entries tell the two readings, `agree`, `differ` and `manual-is`; and `agree` of the ALU, where no
+-- difference is known.
 pub mod Alu
 mod AluBits
 mod AluBytes
 mod AluCounts
 mod AluSigns
+mod Entries
 mod Formats
 pub mod Halfwords
 pub mod Words

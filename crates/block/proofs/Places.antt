@@ -7,8 +7,9 @@ use Prim.Native.Nat.{ℕ, _+_, _-_, _*_, _/_, _%_, _^_, _≤_, _<_}
 use native.Mathlib.Omega.{arith}
 use lib.ListN.{length, take, drop, length-drop}
 use lib.Seq.{length-take-le, take-add, drop-at, drop-drop}
-use borrow.Author.Tests.{eqb-true, leb-true, ltb-true}
-use Rattle.block.specs.Memory.{goodMemory, inMemory, restOfPage}
+use lib.Dec.{leb}
+use borrow.Author.Tests.{eqb-true, leb-true}
+use Rattle.block.specs.Memory.{goodMemory, spans, inMemory, restOfPage}
 use Rattle.bits.proofs.Tests.{and-both}
 
 pub record Geometry (size base : ℕ) : Type 0 where
@@ -26,8 +27,11 @@ geometry e =
     let d = and-both _ _ (c .0) in
     record { whole = eqb-true _ _ (d .0); based = eqb-true _ _ (d .1); least = leb-true _ _ (c .1); most = leb-true _ _ (b .1); top = leb-true _ _ (a .1) }
 
+pub spanned : (size base address n : ℕ) → spans size base address n ≡ true → (base ≤ address) × (address + n ≤ base + size)
+spanned size base address n e = let a = and-both (leb base address) _ e in (leb-true _ _ (a .0), leb-true _ _ (a .1))
+
 pub held : (size base address : ℕ) → inMemory size base address ≡ true → (base ≤ address) × (address < base + size)
-held size base address e = let a = and-both _ _ e in (leb-true _ _ (a .0), ltb-true _ _ (a .1))
+held size base address e = let h = spanned size base address 1 e in (h .0, omega arith)
 
 -- a part of the page that starts at the address, as the code lends it
 pub rest-is : (memory : List ℕ) (base address : ℕ) → base % 4096 ≡ 0 → base ≤ address → address - base ≤ length memory

@@ -12,11 +12,17 @@ same true t f g = sym (f refl)
 same false true f g = g refl
 same false false f g = refl
 
-pub below : (a b n : ℕ) → b ≤ a → ltb (a - b) n ≡ ltb a (b + n)
+pub below : (a b n : ℕ) → b ≤ a → ltb (a - b) n ≡ leb (a + 1) (b + n)
 below a b n h =
-    same (ltb (a - b) n) (ltb a (b + n))
-    (λ t. lt-ltb a (b + n) (omega (arith, ltb-true (a - b) n t)))
-    (λ t. lt-ltb (a - b) n (omega (arith, ltb-true a (b + n) t)))
+    same (ltb (a - b) n) (leb (a + 1) (b + n))
+    (λ t. le-leb (a + 1) (b + n) (omega (arith, ltb-true (a - b) n t)))
+    (λ t. lt-ltb (a - b) n (omega (arith, leb-true (a + 1) (b + n) t)))
+
+pub apart : (a b m n : ℕ) → b ≤ a → n ≤ m → leb (a - b) (m - n) ≡ leb (a + n) (b + m)
+apart a b m n h k =
+    same (leb (a - b) (m - n)) (leb (a + n) (b + m))
+    (λ t. le-leb (a + n) (b + m) (omega (arith, leb-true (a - b) (m - n) t)))
+    (λ t. le-leb (a - b) (m - n) (omega (arith, leb-true (a + n) (b + m) t)))
 
 pub room : (a b n : ℕ) → b ≤ n → leb a (n - b) ≡ leb (a + b) n
 room a b n h =

@@ -3,16 +3,19 @@
 use Prim.Native.Nat.{ℕ, _+_, _-_, _*_, _/_, _%_, _^_}
 use mathlib.Core.Bool.{Bool, _&&_}
 use mathlib.Core.List.{List}
-use lib.Dec.{eqb, leb, ltb}
+use lib.Dec.{eqb, leb}
 use lib.ListN.{take, drop}
 
 -- 1 to 65,536 whole pages from a page's start, up to 2^56
 abbrev pub goodMemory : ℕ → ℕ → Bool
 goodMemory size base = eqb (size % 4096) 0 && eqb (base % 4096) 0 && leb 4096 size && leb size (65536 * 4096) && leb (base + size) (2 ^ 56)
 
--- the address lies in memory
+-- the n bytes from an address on lie in memory; and the address alone
+abbrev pub spans : ℕ → ℕ → ℕ → ℕ → Bool
+spans size base address n = leb base address && leb (address + n) (base + size)
+
 abbrev pub inMemory : ℕ → ℕ → ℕ → Bool
-inMemory size base address = leb base address && ltb address (base + size)
+inMemory size base address = spans size base address 1
 
 -- the bytes of an address's page, and those of them from the address on
 abbrev pub page : List ℕ → ℕ → ℕ → List ℕ

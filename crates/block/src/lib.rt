@@ -2,7 +2,7 @@
 ghost use mathlib.Core.Path.{_≡_};
 ghost use Prim.Native.Nat.{_≤_};
 ghost use lib.ListN.{length, drop};
-ghost use Rattle.block.specs.Memory.{goodMemory, inMemory};
+ghost use Rattle.block.specs.Memory.{goodMemory, spans, inMemory};
 ghost use Rattle.block.specs.Record.{headBytes};
 ghost use Rattle.block.specs.WellFormed.{allZero, jumps, placed, opsWellFormed, wellFormed};
 use op::OpRecord;
@@ -57,6 +57,19 @@ pub fn good_memory(size: u64, base: u64) -> bool
         return false;
     }
     base <= TOP - size
+}
+
+// Whether the n bytes from an address on lie in memory; no sum here can wrap.
+pub fn spans(size: u64, base: u64, address: u64, n: u64) -> bool
+    ensures { λ r. ⌜ r ≡ spans size base address n ⌝ }
+{
+    if address < base {
+        return false;
+    }
+    if size < n {
+        return false;
+    }
+    address - base <= size - n
 }
 
 // Whether an address lies in memory.

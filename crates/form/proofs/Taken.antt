@@ -43,12 +43,16 @@ module _ (len place at : ℕ) (s : List ℕ) {t : List ℕ} {p : Put} where
   stopped None told e = (refl, ap (λ (o : Put × List ℕ). o .1) e)
   stopped (Some op) told e = let same : p ≡ Recorded (opFields op .op) len = ap (λ (o : Put × List ℕ). o .0) e in (cc, cc)
 
-module _ (place at : ℕ) (s : List ℕ) {t : List ℕ} (raw : ℕ) where
-  -- an op that was decoded is kept as it is
-  pub word-kept : (d : Decoded) {p : Put} {n ilen : ℕ} → p ≡ Recorded n ilen → (p, t) ≡ putOf d 4 place at s → (Recorded n ilen, t) ≡ putOf (orFallback raw d) 4 place at s
-  word-kept (Some op) told e = rw (← told) e
-  word-kept None {p} told e = let same : p ≡ Nothing = ap (λ (o : Put × List ℕ). o .0) e in cc
+  -- an op that was decoded is kept, whatever is made of none
+  pub kept : (f : Decoded → Decoded) → ((op : Op) → f (Some op) ≡ Some op) → (d : Decoded) {n ilen : ℕ} → p ≡ Recorded n ilen → (p, t) ≡ putOf d len place at s
+      → (Recorded n len, t) ≡ putOf (f d) len place at s
+  kept f same (Some op) {n} told e =
+      let put : p ≡ Recorded (opFields op .op) len = ap (λ (o : Put × List ℕ). o .0) e in
+      let number : n ≡ opFields op .op = cc in
+      rw (same op, number) (ap (λ (o : Put × List ℕ). (Recorded (opFields op .op) len, o .1)) e)
+  kept f same None told e = let put : p ≡ Nothing = ap (λ (o : Put × List ℕ). o .0) e in cc
 
+module _ (place at : ℕ) (s : List ℕ) {t : List ℕ} (raw : ℕ) where
   module _ (d : Decoded) (h : (d ≡ None) × (t ≡ s)) where
     pub word-stopped : stopsBlock raw ≡ true → (Nothing, t) ≡ putOf (orFallback raw d) 4 place at s
     word-stopped e = rw (h .0, h .1, e)

@@ -37,17 +37,18 @@ fn fetch_word(raw: u32, lent: &mut [u8], place: usize, off: u16) -> Put
     requires { ⌜ place + 16 ≤ length (now lent) ⌝ }
     ensures { λ r. ⌜ (r, now (lent .exit)) ≡ putOf (orFallback raw (rustWord raw)) 4 place off (now (lent .entry)) ⌝ }
 {
-    let Put::Recorded(op, ilen) = decode::put_word(raw, lent, place, off) else {
+    let Put::Recorded(op, _) = decode::put_word(raw, lent, place, off) else {
         if stops_block(raw) {
             return Put::Nothing;
         }
         op::write_op(lent, place, Op::Fallback { raw }, 4, off);
         return Put::Recorded(9, 4);
     };
-    Put::Recorded(op, ilen)
+    Put::Recorded(op, 4)
 }
 
-// Reads what stands at an offset of s, and writes its record to a place of the lent one. There is no Fallback of two bytes.
+// Reads what stands at an offset of s, and writes its record to a place of the lent one. Each way says its length: the loop then need not wait for the
+// decoder's, which comes through memory.
 fn fetch(s: &[u8], at: usize, lent: &mut [u8], place: usize) -> Put
     requires { ⌜ (at ≤ 4096) × (place + 16 ≤ length (now lent)) ⌝ }
     ensures { λ r. ⌜ (r, now (lent .exit)) ≡ putOf (opAt rust (now (s .entry)) at) (ilenAt (now (s .entry)) at) place at (now (lent .entry)) ⌝ }
@@ -62,7 +63,10 @@ fn fetch(s: &[u8], at: usize, lent: &mut [u8], place: usize) -> Put
         }
         return fetch_word(bits::word_at(s, at), lent, place, at as u16);
     }
-    decode::put_halfword(low, lent, place, at as u16)
+    let Put::Recorded(op, _) = decode::put_halfword(low, lent, place, at as u16) else {
+        return Put::Nothing; // no Fallback of two bytes
+    };
+    Put::Recorded(op, 2)
 }
 
 // The ops of the block whose bytes start s, each through its part of the lent record; its other bytes stay.

@@ -1,36 +1,37 @@
-// Guest memory as a struct that borrows its bytes beside their base, with thin readers over it. (system_bus.rs, what `decode_block` takes of it)
-// Nothing else takes the struct: each reader takes it apart, and the work is done on the slice and the base.
+// Guest memory as a struct that borrows its bytes beside their base, where the Rust has a bus, with two readers and `decode_block` over it. (system_bus.rs; block.rs, `decode_block(bus, pc)`)
+// Each takes the struct apart, and the work is done on the slice and the base. The borrow checker covers no function over such a struct, so their proofs are walks by hand.
 ghost use mathlib.Core.Path.{_≡_};
-ghost use Rattle.guest.specs.Guest.{readHalfword};
+ghost use Rattle.decode.specs.Readings.{rust};
+ghost use Rattle.form.specs.Call.{formCall};
+ghost use Rattle.guest.specs.Guest.{readHalfword, readWord};
+use answer::Answer;
+use answer::Refusal;
+use answer::Valued;
 
 pub struct GuestMemory<'a> {
     pub bytes: &'a [u8],
     pub base: u64,
 }
 
-// What reading a halfword finds.
-pub enum GuestRead {
-    Halfword(u16),
-    OutOfMemory,
-}
-
-// The work, on the slice and the base. Odd addresses are read too.
-pub fn halfword_of(memory: &[u8], base: u64, address: u64) -> GuestRead
+// The readers' work. Odd addresses are read too.
+pub fn halfword_of(memory: &[u8], base: u64, address: u64) -> Valued
     ensures { λ r. ⌜ r ≡ readHalfword (now (memory .entry)) base address ⌝ }
 {
-    if address < base {
-        return GuestRead::OutOfMemory;
+    if block::spans(memory.len() as u64, base, address, 2) {
+        let at = (address - base) as usize;
+        return Valued::Value(bits::halfword_at(memory, at) as u64);
     }
-    let off = address - base;
-    let len = memory.len() as u64;
-    if len <= off {
-        return GuestRead::OutOfMemory;
+    Valued::NoValue(Refusal::OutsideMemory)
+}
+
+pub fn word_of(memory: &[u8], base: u64, address: u64) -> Valued
+    ensures { λ r. ⌜ r ≡ readWord (now (memory .entry)) base address ⌝ }
+{
+    if block::spans(memory.len() as u64, base, address, 4) {
+        let at = (address - base) as usize;
+        return Valued::Value(bits::word_at(memory, at) as u64);
     }
-    if len - off < 2 {
-        return GuestRead::OutOfMemory;
-    }
-    let at = off as usize;
-    GuestRead::Halfword(bits::halfword_at(memory, at))
+    Valued::NoValue(Refusal::OutsideMemory)
 }
 
 pub fn view<'a>(bytes: &'a [u8], base: u64) -> GuestMemory<'a>
@@ -39,15 +40,21 @@ pub fn view<'a>(bytes: &'a [u8], base: u64) -> GuestMemory<'a>
     GuestMemory { bytes, base }
 }
 
-pub fn halfword<'a>(memory: GuestMemory<'a>, address: u64) -> GuestRead
+pub fn halfword<'a>(memory: GuestMemory<'a>, address: u64) -> Valued
     ensures { λ r. ⌜ r ≡ readHalfword (now (memory .entry .bytes)) (memory .entry .base) address ⌝ }
 {
     halfword_of(memory.bytes, memory.base, address)
 }
 
-// Plain parameters, so whoever calls this one needs no walk by hand.
-pub fn halfword_at(memory: &[u8], base: u64, address: u64) -> GuestRead
-    ensures { λ r. ⌜ r ≡ readHalfword (now (memory .entry)) base address ⌝ }
+pub fn word<'a>(memory: GuestMemory<'a>, address: u64) -> Valued
+    ensures { λ r. ⌜ r ≡ readWord (now (memory .entry .bytes)) (memory .entry .base) address ⌝ }
 {
-    halfword(view(memory, base), address)
+    word_of(memory.bytes, memory.base, address)
+}
+
+// Forms the block at an address into the lent record, as `form::form` does.
+pub fn decode_block<'a>(memory: GuestMemory<'a>, address: u64, lent: &mut [u8]) -> Answer
+    ensures { λ r. ⌜ (r, now (lent .exit)) ≡ formCall rust (now (memory .entry .bytes)) (memory .entry .base) address (now (lent .entry)) ⌝ }
+{
+    form::form(memory.bytes, memory.base, address, lent)
 }

@@ -2,8 +2,8 @@
 ghost use mathlib.Core.Path.{_≡_};
 ghost use Prim.Native.Nat.{_<_};
 ghost use lib.ListN.{length};
+use answer::Answer;
 use block::BlockRecord;
-use form::FormAnswer;
 use libc::STDIN_FILENO;
 use libc::STDOUT_FILENO;
 use op::OpRecord;
@@ -63,8 +63,7 @@ fn block_lines(page: &[u8], at: u64) -> u64
     ensures { λ r. ⌜ r < 65536 ⌝ }
 {
     let mut record = [0u8; 1040];
-    let answer = form::form(page, 0, at, &mut record);
-    let FormAnswer::BlockFormed = answer else {
+    let Answer::Done = form::form(page, 0, at, &mut record) else {
         return 0;
     };
     let count = bits::halfword_at(&record, 8);

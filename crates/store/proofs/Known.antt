@@ -9,7 +9,7 @@ use native.Mathlib.Nat.{one-mul, mod-lt, mul-suc, mul-le-mul, mul-le-mul-left}
 use lib.Dec.{eqb, leb}
 use lib.ListN.{length, getD}
 use lib.Pow.{pow-pos, pow-mono, shl-exact}
-use borrow.Author.Tests.{leb-true, ltb-true, eqb-true, le-leb, lt-ltb, eq-eqb}
+use borrow.Author.Tests.{leb-true, eqb-true, le-leb, eq-eqb}
 use Rattle.bits.specs.Bytes.{doublewordAt}
 use Rattle.block.proofs.Places as block
 use Rattle.bits.proofs.Tests.{and-both, not-true}
@@ -108,11 +108,11 @@ front-fits g s f = omega (arith, f .size)
 
 pub holds-are : (g : Geometry) (a : ℕ) → holds g a ≡ true → (g .base ≤ a) × (a < g .base + 4096 * g .pages)
 unfolding holds
-holds-are g a h = let w = and-both (leb (g .base) a) _ h in (leb-true _ _ (w .0), ltb-true _ _ (w .1))
+holds-are g a h = block.held (4096 * g .pages) (g .base) a h
 
 pub are-held : (g : Geometry) (a : ℕ) → g .base ≤ a → a < g .base + 4096 * g .pages → holds g a ≡ true
 unfolding holds
-are-held g a l u = rw (le-leb (g .base) a l) (lt-ltb a (g .base + 4096 * g .pages) u)
+are-held g a l u = rw (le-leb (g .base) a l) (le-leb (a + 1) (g .base + 4096 * g .pages) (omega arith))
 
 pub page-lt : (g : Geometry) (a : ℕ) → holds g a ≡ true → pageOf g a < g .pages
 page-lt g a h = omega (arith, holds-are g a h)

@@ -2,9 +2,9 @@
 // promises, by the same definition, and asks nothing of its caller. include/unvriscol.h declares them in this order.
 ghost use mathlib.Core.Path.{_≡_};
 ghost use Rattle.answer.specs.Answer.{answerNumber, valuedNumber, valuedValue};
+ghost use Rattle.decode.specs.Readings.{rust};
 ghost use Rattle.decode.specs.Call.{wordCall, halfCall};
 ghost use Rattle.alu.specs.Call.{aluCall};
-ghost use Rattle.form.specs.Forming.{rust};
 ghost use Rattle.form.specs.Call.{formCall};
 ghost use Rattle.cache.specs.Answers.{lookupNumber, lookupValue, reportNumber, reportValue};
 ghost use Rattle.cache.specs.Calls.{makeCall, lookupCall, insertCall, noticeCall, flushCall, generationCall};
@@ -13,7 +13,7 @@ ghost use Rattle.unvriscol.specs.Seen.{both, seen, seenWithTwo};
 
 // Document 01's number, and the value beside it, which is 0 at every number but 0.
 #[repr(C)]
-pub struct Answer {
+pub struct Numbered {
     pub number: u64,
     pub value: u64,
 }
@@ -21,7 +21,7 @@ pub struct Answer {
 // Decodes a word into the lent op record.
 #[no_mangle]
 pub extern "C" fn uv_decode_word(raw: u32, lent: &mut [u8]) -> u64
-    ensures { λ r. ⌜ (r, now (lent .exit)) ≡ wordCall raw (now (lent .entry)) ⌝ }
+    ensures { λ r. ⌜ (r, now (lent .exit)) ≡ seen answerNumber (wordCall rust raw (now (lent .entry))) ⌝ }
 {
     let answer = decode::decode_word(raw, lent);
     answer.number()
@@ -30,7 +30,7 @@ pub extern "C" fn uv_decode_word(raw: u32, lent: &mut [u8]) -> u64
 // Decodes a halfword into the lent op record.
 #[no_mangle]
 pub extern "C" fn uv_decode_halfword(raw: u16, lent: &mut [u8]) -> u64
-    ensures { λ r. ⌜ (r, now (lent .exit)) ≡ halfCall raw (now (lent .entry)) ⌝ }
+    ensures { λ r. ⌜ (r, now (lent .exit)) ≡ seen answerNumber (halfCall rust raw (now (lent .entry))) ⌝ }
 {
     let answer = decode::decode_halfword(raw, lent);
     answer.number()
@@ -38,19 +38,19 @@ pub extern "C" fn uv_decode_halfword(raw: u16, lent: &mut [u8]) -> u64
 
 // Computes an ALU kind, given by its number; the value is the result.
 #[no_mangle]
-pub extern "C" fn uv_alu(kind: u64, lhs: u64, rhs: u64) -> Answer
+pub extern "C" fn uv_alu(kind: u64, lhs: u64, rhs: u64) -> Numbered
     ensures { λ r. ⌜ (r .number, r .value) ≡ both valuedNumber valuedValue (aluCall kind lhs rhs) ⌝ }
 {
     let answer = alu::alu_call(kind, lhs, rhs);
     let number = answer.number();
     let value = answer.value();
-    Answer { number, value }
+    Numbered { number, value }
 }
 
 // Forms the block at an address of guest memory into the lent block record.
 #[no_mangle]
 pub extern "C" fn uv_form(memory: &[u8], base: u64, address: u64, lent: &mut [u8]) -> u64
-    ensures { λ r. ⌜ (r, now (lent .exit)) ≡ formCall rust (now (memory .entry)) base address (now (lent .entry)) ⌝ }
+    ensures { λ r. ⌜ (r, now (lent .exit)) ≡ seen answerNumber (formCall rust (now (memory .entry)) base address (now (lent .entry))) ⌝ }
 {
     let answer = form::form(memory, base, address, lent);
     answer.number()
@@ -67,13 +67,13 @@ pub extern "C" fn uv_make(store: &mut [u8], e: u64, base: u64, pages: u64) -> u6
 
 // Looks a block up; the value is where in the store its record begins.
 #[no_mangle]
-pub extern "C" fn uv_lookup(store: &[u8], address: u64) -> Answer
+pub extern "C" fn uv_lookup(store: &[u8], address: u64) -> Numbered
     ensures { λ r. ⌜ (r .number, r .value) ≡ both lookupNumber lookupValue (lookupCall (now (store .entry)) address) ⌝ }
 {
     let answer = cache::find(store, address);
     let number = answer.number();
     let value = answer.value();
-    Answer { number, value }
+    Numbered { number, value }
 }
 
 // Inserts the block record into the place of its address's slot.
@@ -87,13 +87,13 @@ pub extern "C" fn uv_insert(store: &mut [u8], address: u64, lent: &[u8]) -> u64
 
 // Notices a write at the address; the value is the slots examined.
 #[no_mangle]
-pub extern "C" fn uv_notice(store: &mut [u8], address: u64) -> Answer
+pub extern "C" fn uv_notice(store: &mut [u8], address: u64) -> Numbered
     ensures { λ r. ⌜ ((r .number, r .value), now (store .exit)) ≡ seen (both reportNumber reportValue) (noticeCall (now (store .entry)) address) ⌝ }
 {
     let answer = cache::notice(store, address);
     let number = answer.number();
     let value = answer.value();
-    Answer { number, value }
+    Numbered { number, value }
 }
 
 // Empties the cache.
@@ -107,13 +107,13 @@ pub extern "C" fn uv_flush(store: &mut [u8]) -> u64
 
 // The value is the store's generation.
 #[no_mangle]
-pub extern "C" fn uv_generation(store: &[u8]) -> Answer
+pub extern "C" fn uv_generation(store: &[u8]) -> Numbered
     ensures { λ r. ⌜ (r .number, r .value) ≡ both valuedNumber valuedValue (generationCall (now (store .entry))) ⌝ }
 {
     let answer = cache::generation(store);
     let number = answer.number();
     let value = answer.value();
-    Answer { number, value }
+    Numbered { number, value }
 }
 
 // Writes the low bytes of the value to guest memory, with a notice for each page touched; the value returned is the slots examined.
@@ -124,11 +124,11 @@ pub extern "C" fn uv_guest_write(
     address: u64,
     size: u64,
     value: u64,
-) -> Answer
+) -> Numbered
     ensures { λ r. ⌜ ((r .number, r .value), now (store .exit), now (memory .exit)) ≡ seenWithTwo (both reportNumber reportValue) (writeCall (now (store .entry)) (now (memory .entry)) address size value) ⌝ }
 {
     let answer = write::guest_write(store, memory, address, size, value);
     let number = answer.number();
     let value = answer.value();
-    Answer { number, value }
+    Numbered { number, value }
 }

@@ -3,23 +3,25 @@
 use mathlib.Core.Path.{_≡_, refl, sym, ap, subst}
 use mathlib.Core.Bool.{Bool, true, false, cond}
 use mathlib.Core.List.{List}
-use Prim.Native.Nat.{ℕ, _+_, _-_, _*_, _^_, _≤_}
+use Prim.Native.Nat.{ℕ, _+_, _*_, _^_, _≤_}
 use native.Mathlib.Omega.{arith}
 use lib.Dec.{eqb}
 use borrow.Author.Tests.{eqb-true, ne-eqb}
 use Rattle.bits.proofs.Every.{decide}
-use Rattle.bits.proofs.Tests.{and-both, true-false}
-use Rattle.store.specs.Layout.{opened, holds, Bounded}
+use Rattle.bits.proofs.Tests.{true-false}
+use Rattle.block.specs.Memory.{spans}
+use Rattle.block.proofs.Places.{spanned}
+use Rattle.store.specs.Layout.{opened, Bounded}
 use Rattle.store.specs.declared.Geometry.{Geometry}
 use Rattle.store.specs.declared.Opened.{Opened}
 use Rattle.store.specs.declared.Opened.the-variants.{Sound, NotAStore}
-use Rattle.store.proofs.Known.{holds-are, slots-le}
+use Rattle.store.proofs.Known.{slots-le}
 use Rattle.cache.proofs.Checks.{rejected}
 use Rattle.cache.specs.Calls.{watched, evicted, noticedIn}
 use Rattle.answer.specs.declared.Refusal.the-variants.{BadGeometry, OutsideMemory, WrongWriteSize}
 use Rattle.cache.specs.declared.Judged.the-variants.{Accepted, Rejected}
 use Rattle.cache.specs.declared.Report.{Report}
-use Rattle.write.specs.Write.{goodSize, inside, writeJudged}
+use Rattle.write.specs.Write.{goodSize, writeJudged}
 
 pub size-small : (n : ℕ) → goodSize n ≡ true → (1 ≤ n) × (n ≤ 8)
 size-small n h =
@@ -41,23 +43,23 @@ module _ (s : List ℕ) (size a n : ℕ) (g : Geometry) where
   pub write-granted : writeJudged (opened s) size a n ≡ Accepted g → Granted s size a n g
   write-granted h = go (opened s) refl h
     where
-      facts : opened s ≡ Sound g → size ≡ 4096 * g .pages → goodSize n ≡ true → inside g a n ≡ true → Granted s size a n g
+      facts : opened s ≡ Sound g → size ≡ 4096 * g .pages → goodSize n ≡ true → spans (4096 * g .pages) (g .base) a n ≡ true → Granted s size a n g
       facts e w t i =
-          let b = and-both (holds g a) (holds g (a + n - 1)) i in
+          let b = spanned (4096 * g .pages) (g .base) a n i in
           let r = size-small n t in
-          record { sound = e; whole = w; some = r .0; few = r .1; low = holds-are g a (b .0) .0; high = omega (arith, holds-are g (a + n - 1) (b .1)) }
+          record { sound = e; whole = w; some = r .0; few = r .1; low = b .0; high = b .1 }
 
-      tests : (k : Geometry) → opened s ≡ Sound k → (x y z : Bool) → eqb size (4096 * k .pages) ≡ x → goodSize n ≡ y → inside k a n ≡ z → cond x (cond y (cond z (Accepted k) (Rejected OutsideMemory)) (Rejected WrongWriteSize)) (Rejected BadGeometry) ≡ Accepted g → Granted s size a n g
+      tests : (k : Geometry) → opened s ≡ Sound k → (x y z : Bool) → eqb size (4096 * k .pages) ≡ x → goodSize n ≡ y → spans (4096 * k .pages) (k .base) a n ≡ z → cond x (cond y (cond z (Accepted k) (Rejected OutsideMemory)) (Rejected WrongWriteSize)) (Rejected BadGeometry) ≡ Accepted g → Granted s size a n g
       tests k e true true true ex ey ez q =
           let w : k ≡ g = cc in
-          subst (λ (z : Geometry). opened s ≡ Sound z → size ≡ 4096 * z .pages → inside z a n ≡ true → Granted s size a n g) (sym w)
+          subst (λ (z : Geometry). opened s ≡ Sound z → size ≡ 4096 * z .pages → spans (4096 * z .pages) (z .base) a n ≡ true → Granted s size a n g) (sym w)
           (λ p r i. facts p r ey i) e (eqb-true _ _ ex) ez
       tests k e true true false ex ey ez q = absurd (rejected q)
       tests k e true false z ex ey ez q = absurd (rejected q)
       tests k e false y z ex ey ez q = absurd (rejected q)
 
       go : (o : Opened) → opened s ≡ o → writeJudged o size a n ≡ Accepted g → Granted s size a n g
-      go (Sound k) e q = tests k e (eqb size (4096 * k .pages)) (goodSize n) (inside k a n) refl refl refl q
+      go (Sound k) e q = tests k e (eqb size (4096 * k .pages)) (goodSize n) (spans (4096 * k .pages) (k .base) a n) refl refl refl q
       go NotAStore e q = absurd (rejected q)
 
 pub report-small : (g : Geometry) (s : List ℕ) (a : ℕ) (r : Report) (t : List ℕ) → Bounded g → (r, t) ≡ noticedIn g s a → r .examined ≤ 16384

@@ -1,13 +1,14 @@
 -- Guest write: 1, 2, 8, 3; then a notice for each page touched, then the low bytes of the value.
 -- Assumes nothing.
 use Prim.Native.Nat.{ℕ, _+_, _-_, _*_, _/_}
-use mathlib.Core.Bool.{Bool, true, false, cond, _&&_}
+use mathlib.Core.Bool.{Bool, true, false, cond}
 use mathlib.Core.List.{List, [], _∷_}
 use lib.Dec.{eqb}
 use lib.ListN.{length}
 use Rattle.bits.specs.Bytes.{le, patch}
 use Rattle.bits.specs.Match.{_⇒_, case}
-use Rattle.store.specs.Layout.{opened, holds}
+use Rattle.block.specs.Memory.{spans}
+use Rattle.store.specs.Layout.{opened}
 use Rattle.store.specs.declared.Geometry.{Geometry}
 use Rattle.store.specs.declared.Opened.{Opened}
 use Rattle.store.specs.declared.Opened.the-variants.{Sound, NotAStore}
@@ -22,14 +23,10 @@ use Rattle.cache.specs.declared.ReportAnswer.the-variants.{Reported, NotReporte
 abbrev pub goodSize : ℕ → Bool
 goodSize n = case n ((1 ⇒ true) ∷ (2 ⇒ true) ∷ (4 ⇒ true) ∷ (8 ⇒ true) ∷ []) false
 
--- the first and the last byte of the write lie in memory
-abbrev pub inside : Geometry → ℕ → ℕ → Bool
-inside g a n = holds g a && holds g (a + n - 1)
-
 abbrev pub writeJudged : Opened → ℕ → ℕ → ℕ → Judged
 writeJudged (Sound g) size a n =
     cond (eqb size (4096 * g .pages))
-    (cond (goodSize n) (cond (inside g a n) (Accepted g) (Rejected OutsideMemory)) (Rejected WrongWriteSize))
+    (cond (goodSize n) (cond (spans (4096 * g .pages) (g .base) a n) (Accepted g) (Rejected OutsideMemory)) (Rejected WrongWriteSize))
     (Rejected BadGeometry)
 writeJudged NotAStore size a n = Rejected NoStore
 

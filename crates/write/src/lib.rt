@@ -3,8 +3,8 @@ ghost use mathlib.Core.Path.{_≡_};
 ghost use Prim.Native.Nat.{_+_, _≤_};
 ghost use lib.ListN.{length};
 ghost use Rattle.bits.specs.Bytes.{le, patch};
-ghost use Rattle.store.specs.Layout.{opened, Bounded, Fitting};
-ghost use Rattle.write.specs.Write.{goodSize, inside, writeJudged, touched, writeCall};
+ghost use Rattle.store.specs.Layout.{opened, Fitting};
+ghost use Rattle.write.specs.Write.{goodSize, writeJudged, touched, writeCall};
 use answer::Refusal;
 use block::PAGE;
 use cache::Judged;
@@ -25,20 +25,6 @@ fn good_size(n: u64) -> bool
     }
 }
 
-// Whether all n bytes lie in memory; no sum here can wrap.
-fn inside(g: Geometry, address: u64, n: u64) -> bool
-    requires { ⌜ Bounded g × ((1 ≤ n) × (n ≤ 8)) ⌝ }
-    ensures { λ r. ⌜ r ≡ inside g address n ⌝ }
-{
-    if address < g.base {
-        return false;
-    }
-    if g.base + PAGE * g.pages - n < address {
-        return false;
-    }
-    true
-}
-
 fn judge_write(store: &[u8], size: usize, address: u64, n: u64) -> Judged
     ensures { λ r. ⌜ r ≡ writeJudged (opened (now (store .entry))) size address n ⌝ }
 {
@@ -49,7 +35,7 @@ fn judge_write(store: &[u8], size: usize, address: u64, n: u64) -> Judged
         return Judged::Rejected(Refusal::BadGeometry);
     }
     if good_size(n) {
-        if inside(g, address, n) {
+        if block::spans(PAGE * g.pages, g.base, address, n) {
             Judged::Accepted(g)
         } else {
             Judged::Rejected(Refusal::OutsideMemory)

@@ -1,9 +1,10 @@
 -- `form::fetch_word` meets its contract.
 -- Assumes nothing.
-use mathlib.Core.Path.{_≡_, sym, _∙_}
+use mathlib.Core.Path.{_≡_, refl, sym, _∙_}
 use Rattle.word.specs.Word.{rustWord}
 use Rattle.op.specs.declared.Decoded.the-variants.{None}
-use Rattle.form.proofs.Taken.{stopped, word-kept, word-stopped, word-fallback}
+use Rattle.form.specs.Forming.{orFallback}
+use Rattle.form.proofs.Taken.{kept, stopped, word-stopped, word-fallback}
 use borrow.Author.Needs.{needs}
 use Rattle.form.proofs.fetch_word.Statement.{statement}
 use Rattle.form.proofs.fetch_word.Tie as tie
@@ -37,4 +38,4 @@ fetch-word-spec =
     (λ c.
     let done = c .before .before .before .before .before in
     let a = done .before .before .before .args in
-    word-kept (a .place) (a .off) (a .lent .now) (a .raw) (rustWord (a .raw)) (c .before .op .given .1) (done .put-word .ensures)))
+    kept 4 (a .place) (a .off) (a .lent .now) (orFallback (a .raw)) (λ op. refl) (rustWord (a .raw)) (c .before .op .given .1) (done .put-word .ensures)))

@@ -1,31 +1,25 @@
--- `guest::halfword_of` meets its contract: each way decides the two tests.
+-- `guest::halfword_of` meets its contract: the test decides, and says that the halfword's bytes are there.
 -- Assumes nothing.
-use mathlib.Core.Path.{ap}
-use Prim.Native.Nat.{_+_, _-_, _<_, _≤_}
+use mathlib.Core.Path.{sym, ap, _∙_}
+use Prim.Native.Nat.{_+_, _≤_}
 use native.Mathlib.Omega.{arith}
 use lib.ListN.{length}
-use borrow.Author.Tests.{le-leb, lt-leb}
-use Rattle.guest.specs.declared.GuestRead.the-variants.{Halfword}
 use borrow.Author.Needs.{needs}
+use Rattle.answer.specs.declared.Valued.the-variants.{Value}
+use Rattle.block.proofs.Places.{spanned}
 use Rattle.guest.proofs.halfword_of.Statement.{statement}
 use Rattle.guest.proofs.halfword_of.Tie as tie
+
+known : (c : tie.Then1) → let a = c .before .before .before .args in (a .base ≤ a .address) × (a .address + 2 ≤ a .base + length (a .memory .now))
+known c = let a = c .before .before .before .args in spanned (length (a .memory .now)) (a .base) (a .address) 2 (sym (c .before .spans .ensures) ∙ c .if1 .taken)
 
 pub halfword-of-spec : {M : Type 1} → statement M
 halfword-of-spec =
     tie.close
     (tie.spec
-    (λ c. rw (lt-leb (c .before .before .args .base) (c .before .before .args .address) (c .if1 .taken)))
-    (λ c.
-    let a = c .before .before .before .args in
-    let h : length (a .memory .now) < a .address - a .base + 2 = omega arith in
-    rw (le-leb (a .base) (a .address) (c .before .if1 .left), lt-leb (a .address - a .base + 2) (length (a .memory .now)) h))
-    (λ c. search needs)
-    (λ c.
-    let a = c .before .before .before .before .args in
-    let h : length (a .memory .now) < a .address - a .base + 2 = omega arith in
-    rw (le-leb (a .base) (a .address) (c .before .before .if1 .left), lt-leb (a .address - a .base + 2) (length (a .memory .now)) h))
     (λ c κs. search needs)
-    (λ c.
-    let a = c .before .before .before .before .before .args in
-    let h : a .address - a .base + 2 ≤ length (a .memory .now) = omega arith in
-    rw (le-leb (a .base) (a .address) (c .before .before .before .if1 .left), le-leb (a .address - a .base + 2) (length (a .memory .now)) h) (ap Halfword (c .halfword-at .ensures))))
+    (λ c. known c .0)
+    (λ c κs. omega (arith, known c))
+    (λ c. search needs)
+    (λ c. rw (sym (c .before .before .spans .ensures) ∙ c .before .if1 .taken) (ap Value (c .halfword-at .ensures)))
+    (λ c. rw (sym (c .before .spans .ensures) ∙ c .if1 .left)))

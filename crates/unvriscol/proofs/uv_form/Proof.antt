@@ -1,5 +1,7 @@
 -- `unvriscol::uv_form` meets its contract: the number is the answer's, and the bytes are as the call leaves them.
 -- Assumes nothing.
+use Rattle.answer.specs.Answer.{answerNumber}
+use Rattle.unvriscol.proofs.Passed.{passed}
 use borrow.Author.Needs.{needs}
 use Rattle.unvriscol.proofs.uv_form.Statement.{statement}
 use Rattle.unvriscol.proofs.uv_form.Tie as tie
@@ -9,4 +11,6 @@ uv-form-spec =
     tie.close
     (tie.spec
     (λ c κs. search needs) (λ c κs. search needs) (λ c. search needs)
-    (λ c. rw (c .number .ensures) (c .before .before .before .form .ensures)))
+    (λ c.
+    let called = c .before .before .before .form in
+    passed answerNumber (called .result) (c .number .ensures) (called .ensures)))

@@ -6,7 +6,6 @@ use borrow.Author.Tests.{eq-eqb, ne-eqb}
 use Rattle.store.specs.declared.Opened.the-variants.{Sound}
 use Rattle.store.specs.Layout.{opened}
 use Rattle.cache.proofs.Checks.{opened-fits}
-use Rattle.write.proofs.Granted.{size-small}
 use borrow.Author.Needs.{needs}
 use Rattle.write.proofs.judge_write.Statement.{statement}
 use Rattle.write.proofs.judge_write.Tie as tie
@@ -23,13 +22,14 @@ judge-write-spec =
     (λ c. let b = opened-fits _ _ (good (c .before)) .bounds in omega arith)
     (λ c. rw (good (c .before .before), ne-eqb _ _ (c .if1 .taken)))
     (λ c κs. search needs)
-    (λ c κs. (opened-fits _ _ (good (c .before .before .before .before)) .bounds, size-small _ (sym (c .before .good-size .ensures) ∙ c .if2 .taken)))
+    (λ c. let b = opened-fits _ _ (good (c .before .before .before .before .before)) .bounds in omega arith)
+    (λ c κs. search needs)
     (λ c.
-    let size = c .before .before .before in
-    rw (good (size .before .before .before), eq-eqb _ _ (size .before .if1 .left), sym (size .good-size .ensures) ∙ c .before .before .if2 .taken, sym (c .before .inside .ensures) ∙ c .if3 .taken))
+    let size = c .before .before .before .before in
+    rw (good (size .before .before .before), eq-eqb _ _ (size .before .if1 .left), sym (size .good-size .ensures) ∙ c .before .before .before .if2 .taken, sym (c .before .spans .ensures) ∙ c .if3 .taken))
     (λ c.
-    let size = c .before .before .before in
-    rw (good (size .before .before .before), eq-eqb _ _ (size .before .if1 .left), sym (size .good-size .ensures) ∙ c .before .before .if2 .taken, sym (c .before .inside .ensures) ∙ c .if3 .left))
+    let size = c .before .before .before .before in
+    rw (good (size .before .before .before), eq-eqb _ _ (size .before .if1 .left), sym (size .good-size .ensures) ∙ c .before .before .before .if2 .taken, sym (c .before .spans .ensures) ∙ c .if3 .left))
     (λ c.
     let size = c .before in
     rw (good (size .before .before .before), eq-eqb _ _ (size .before .if1 .left), sym (size .good-size .ensures) ∙ c .if2 .left)))

@@ -1,0 +1,3 @@
+-- What the crate's proofs share.
+pub mod Apart
+pub mod Reader
