@@ -26,7 +26,7 @@ use Rattle.cache.specs.Calls.{makeJudged, lookupCall}
 use Rattle.cache.specs.declared.Judged.{Judged}
 use Rattle.cache.specs.declared.Judged.the-variants.{Accepted, Rejected}
 use Rattle.cache.proofs.Checks.{opened-fits}
-use Rattle.write.specs.Write.{writeJudged, written, writeCall}
+use Rattle.write.specs.Write.{writeJudged, writeCall}
 use Rattle.write.proofs.Granted.{Granted}
 use Rattle.history.specs.History.{Event, inserted, touched, flushed, Every, none-left, and-then, OfInserted, shown}
 use Rattle.history.proofs.Sentences.{no-some, shown-was}

@@ -2,7 +2,7 @@
 -- no byte of the store. For a store with no past, `unmade`, the first bytes are any.
 -- Assumes nothing.
 use mathlib.Core.Path.{_≡_, refl, sym, ap, subst, _∙_}
-use mathlib.Core.List.{List, [], _++_}
+use mathlib.Core.List.{List}
 use mathlib.Core.Option.{Option, none, some}
 use Prim.Native.Nat.{ℕ, _+_, _-_, _%_, _^_}
 use native.Mathlib.Omega.{arith}
@@ -20,12 +20,12 @@ use Rattle.cache.specs.Calls as cache
 use Rattle.cache.specs.declared.ReportAnswer.the-variants.{Reported}
 use Rattle.cache.specs.declared.Judged.{Judged}
 use Rattle.cache.specs.declared.Judged.the-variants.{Accepted, Rejected}
-use Rattle.write.specs.Write.{writeJudged, written, writeCall}
+use Rattle.write.specs.Write.{writeJudged, writeCall}
 use Rattle.write.specs.Write as writes
 use Rattle.history.specs.History.{Event, insertions, shown, marked, Lives, Marked}
 use Rattle.history.proofs.Sentences.{shown-lives, lives-shown, marked-is, is-marked, shown-was}
 use Rattle.guarantee.specs.Calls.{write, Call, Lent, run, lookedUp}
-use Rattle.guarantee.specs.Past.{Past, since, pageOf, ifAccepted, crossed, events, pastOf}
+use Rattle.guarantee.specs.Past.{Past, since, pageOf, crossed, events, pastOf}
 use Rattle.guarantee.specs.Stands.{Stands, Follows}
 use Rattle.guarantee.specs.Answers.{lookupAnswered, partFor, report, reports, answered, writeAnswered}
 use Rattle.guarantee.proofs.Simulation.{Possible, fits-accepted, notice-reports, write-reports}

@@ -14,7 +14,6 @@ use Rattle.store.specs.Layout.{holds, slotOf, Bounded}
 use Rattle.store.specs.Places.{emptyPlace}
 use Rattle.store.specs.declared.Geometry.{Geometry}
 use Rattle.store.proofs.Known.{holds-are, slot-lt}
-use Rattle.store.proofs.View.{placeIn}
 use Rattle.cache.specs.Calls.{placeOf, lookupCall}
 use Rattle.cache.specs.Calls as cache
 use Rattle.cache.specs.declared.LookupAnswer.{LookupAnswer}

@@ -1,9 +1,9 @@
 -- After any calls, on a store that stands for a past at first, both buffers have their length, and the store stands for the past that the calls tell.
 -- Assumes nothing.
 use mathlib.Core.Path.{_≡_, refl, sym, ap, subst, _∙_}
-use mathlib.Core.Bool.{Bool, true, false, cond}
+use mathlib.Core.Bool.{Bool, true, false}
 use mathlib.Core.List.{List, [], _∷_, _++_}
-use Prim.Native.Nat.{ℕ, _+_, _-_, _^_}
+use Prim.Native.Nat.{ℕ, _+_, _-_}
 use native.Mathlib.Omega.{arith}
 use lib.Dec.{eqb}
 use lib.ListN.{length}
@@ -18,15 +18,13 @@ use Rattle.store.specs.declared.Opened.the-variants.{Sound, NotAStore}
 use Rattle.store.proofs.Known.{bounds-are}
 use Rattle.store.proofs.Held.{place-long}
 use Rattle.store.proofs.View.{fitting-blank, fitting-flushed, header-long}
-use Rattle.cache.specs.Calls.{makeJudged, made, makeCall, insertJudged, insertedIn, insertCall, watched, evicted, noticedIn, noticed, noticeCall, flushCall}
+use Rattle.cache.specs.Calls.{makeJudged, makeCall, insertJudged, insertedIn, insertCall, watched, noticedIn, noticed, noticeCall, flushCall}
 use Rattle.cache.specs.Calls as cache
-use Rattle.answer.specs.declared.Refusal.the-variants.{NoStore, BadGeometry}
 use Rattle.cache.specs.declared.Judged.{Judged}
 use Rattle.cache.specs.declared.Judged.the-variants.{Accepted, Rejected}
-use Rattle.cache.specs.declared.Report.{Report}
 use Rattle.cache.proofs.Checks.{opened-fits, Taken, insert-taken}
 use Rattle.cache.proofs.View.{fitting-evicted, fitting-inserted}
-use Rattle.write.specs.Write.{writeJudged, andThen, written, writeCall}
+use Rattle.write.specs.Write.{writeJudged, written, writeCall}
 use Rattle.write.specs.Write as writes
 use Rattle.write.proofs.Granted.{Granted, write-granted}
 use Rattle.history.specs.History.{Event, inserted}
@@ -36,17 +34,6 @@ use Rattle.guarantee.specs.Stands.{Stands, Follows}
 use Rattle.guarantee.proofs.Simulation.{make-keeps, flush-keeps, insert-keeps, notice-keeps, write-keeps}
 
 -- no call changes the length of a buffer
-length-make : (e base pages : ℕ) (s : List ℕ) → length (makeCall e base pages s .1) ≡ length s
-length-make e base pages s = go (inBounds e base pages) refl (eqb (length s) (storeSize (geometry e base pages))) refl
-  where
-    g : Geometry
-    g = geometry e base pages
-
-    go : (x : Bool) → inBounds e base pages ≡ x → (y : Bool) → eqb (length s) (storeSize g) ≡ y → length (made (cond x (cond y (Accepted g) (Rejected NoStore)) (Rejected BadGeometry)) s .1) ≡ length s
-    go true ex true ey = fitting-blank g (bounds-are e base pages ex) (header g 1) (header-long e base pages ex) .size ∙ sym (eqb-true _ _ ey)
-    go true ex false ey = refl
-    go false ex y ey = refl
-
 length-insert : (s : List ℕ) (a : ℕ) (rec : List ℕ) → length (insertCall s a rec .1) ≡ length s
 length-insert s a rec = go (insertJudged (opened s) a rec) refl
   where
@@ -60,16 +47,16 @@ length-insert s a rec = go (insertJudged (opened s) a rec) refl
 fitting-noticed : (g : Geometry) (s : List ℕ) (a : ℕ) → Fitting g s → Fitting g (noticedIn g s a .1)
 fitting-noticed g s a f = go (watched g s a) refl
   where
-    go : (t : Bool) → watched g s a ≡ t → Fitting g (cond {A = Report × List ℕ} t (record { examined = 2 ^ g .e }, evicted g s a) (record { examined = 0 }, s) .1)
-    go true e = fitting-evicted g s f a (and-both (holds g a) _ e .0)
-    go false e = f
+    go : (t : Bool) → watched g s a ≡ t → Fitting g (noticedIn g s a .1)
+    go true e = rw e (fitting-evicted g s f a (and-both (holds g a) _ e .0))
+    go false e = rw e f
 
 fitting-touched : (g : Geometry) (s : List ℕ) (a b : ℕ) → Fitting g s → Fitting g (writes.touched g s a b .1)
-fitting-touched g s a b f = go (eqb (pageOf a) (pageOf b))
+fitting-touched g s a b f = go (eqb (pageOf a) (pageOf b)) refl
   where
-    go : (t : Bool) → Fitting g (cond {A = Report × List ℕ} t (noticedIn g s a) (andThen g (noticedIn g s a) b) .1)
-    go true = fitting-noticed g s a f
-    go false = fitting-noticed g (noticedIn g s a .1) b (fitting-noticed g s a f)
+    go : (t : Bool) → eqb (pageOf a) (pageOf b) ≡ t → Fitting g (writes.touched g s a b .1)
+    go true e = rw e (fitting-noticed g s a f)
+    go false e = rw e (fitting-noticed g (noticedIn g s a .1) b (fitting-noticed g s a f))
 
 length-notice : (s : List ℕ) (a : ℕ) → length (noticeCall s a .1) ≡ length s
 length-notice s a = go (opened s) refl
@@ -167,14 +154,6 @@ keeps g h l y flush = rw (y .sound) (flush-keeps g h (l .store) y)
 keeps g h l y generation = y
 keeps g h l y (write a n v) = write-follows g h (l .store) y (l .memory) a n v
 
-make-follows : (e base pages : ℕ) (p : Past) (s : List ℕ) → Follows p s → Follows (ifAccepted (makeJudged e base pages (length s)) (λ g. since g []) p) (makeCall e base pages s .1)
-make-follows e base pages p s y = go (inBounds e base pages) refl (eqb (length s) (storeSize (geometry e base pages))) refl
-  where
-    go : (x : Bool) → inBounds e base pages ≡ x → (z : Bool) → eqb (length s) (storeSize (geometry e base pages)) ≡ z → Follows (ifAccepted (makeJudged e base pages (length s)) (λ g. since g []) p) (makeCall e base pages s .1)
-    go true ex true ez = rw (ex, ez) (make-keeps e base pages ex)
-    go true ex false ez = rw (ex, ez) y
-    go false ex z ez = rw ex y
-
 -- both buffers, after calls that told this past
 pub record Kept (size room : ℕ) (p : Past) (l : Lent) : Type 0 where
   pub stored : length (l .store) ≡ size
@@ -183,11 +162,20 @@ pub record Kept (size room : ℕ) (p : Past) (l : Lent) : Type 0 where
 
 module _ (size room : ℕ) (p : Past) (l : Lent) (k : Kept size room p l) where
   made-kept : (e base pages : ℕ) → Kept size room (ifAccepted (makeJudged e base pages size) (λ g. since g []) p) (storing l (makeCall e base pages (l .store) .1))
-  made-kept e base pages = record {
-    stored = length-make e base pages (l .store) ∙ k .stored;
-    roomy = k .roomy;
-    follows = subst (λ (n : ℕ). Follows (ifAccepted (makeJudged e base pages n) (λ g. since g []) p) (makeCall e base pages (l .store) .1)) (k .stored) (make-follows e base pages p (l .store) (k .follows));
-  }
+  made-kept e base pages = go (inBounds e base pages) refl (eqb size (storeSize g)) refl
+    where
+      g : Geometry
+      g = geometry e base pages
+
+      go : (x : Bool) → inBounds e base pages ≡ x → (z : Bool) → eqb size (storeSize g) ≡ z → Kept size room (ifAccepted (makeJudged e base pages size) (λ g. since g []) p) (storing l (makeCall e base pages (l .store) .1))
+      go true ex true ez =
+          rw (k .stored, ex, ez) (record {
+            stored = fitting-blank g (bounds-are e base pages ex) (header g 1) (header-long e base pages ex) .size ∙ sym (eqb-true size (storeSize g) ez);
+            roomy = k .roomy;
+            follows = make-keeps e base pages ex;
+          })
+      go true ex false ez = rw (k .stored, ex, ez) k
+      go false ex z ez = rw (k .stored, ex) k
 
   used-kept : (c : Use) → Kept size room (told room c p) (done c l .1)
   used-kept c = record { stored = length-store c l ∙ k .stored; roomy = length-room c l ∙ k .roomy; follows = go p (k .follows) }

@@ -3,7 +3,7 @@
 use mathlib.Core.Path.{_≡_, refl, sym, ap, ap₂, subst, _∙_}
 use mathlib.Core.Bool.{Bool, true, false, cond, _&&_, _||_, not}
 use mathlib.Core.List.{List, [], _∷_, _++_}
-use mathlib.Core.Option.{none, some}
+use mathlib.Core.Option.{none}
 use Prim.Native.Nat.{ℕ, suc, _+_, _-_, _*_, _/_, _%_, _^_, _≤_, _<_}
 use native.Mathlib.Omega.{arith}
 use native.Mathlib.Nat.{mod-add-mod}
@@ -27,7 +27,6 @@ use Rattle.cache.specs.declared.Judged.the-variants.{Accepted}
 use Rattle.cache.specs.declared.Report.{Report}
 use Rattle.cache.proofs.Checks.{opened-fits, insert-taken}
 use Rattle.cache.proofs.View.{opened-evicted, generation-evicted, bits-evicted, place-evicted, opened-inserted, generation-inserted, bits-inserted, place-inserted}
-use Rattle.write.specs.Write.{andThen}
 use Rattle.write.specs.Write as writes
 use Rattle.history.specs.History.{Event, inserted, touched, flushed, Every, none-left, and-then, OfInserted, insertions, shown, marked}
 use Rattle.history.proofs.Sentences.{no-some}
@@ -200,23 +199,18 @@ module _ (g : Geometry) (h : List Event) (s : List ℕ) (y : Stands g h s) where
         bit q = decide (pageOf a) q (λ e. rw (eq-eqb (pageOf a) q e) (ap (marked (slotOf g) pageOf h) (sym e) ∙ m)) (λ n. rw (ne-eqb (pageOf a) q n))
 
     pub notice-reports : noticedIn g s a .0 ≡ report g h (pageOf a)
-    notice-reports = go (watched g s a) (marked (slotOf g) pageOf h (pageOf a)) (watched-marked a)
+    notice-reports = go (watched g s a) refl
       where
-        go : (t u : Bool) → t ≡ u → cond {A = Report × List ℕ} t (record { examined = 2 ^ g .e }, evicted g s a) (record { examined = 0 }, s) .0 ≡ record { examined = cond u (2 ^ g .e) 0 }
-        go true true e = refl
-        go false false e = refl
-        go true false e = absurd (true-false refl e)
-        go false true e = absurd (true-false refl (sym e))
+        go : (t : Bool) → watched g s a ≡ t → noticedIn g s a .0 ≡ report g h (pageOf a)
+        go true e = rw (e, sym (watched-marked a) ∙ e)
+        go false e = rw (e, sym (watched-marked a) ∙ e)
 
     pub notice-keeps : Stands g (touched (pageOf a) ∷ h) (noticedIn g s a .1)
     notice-keeps = go (watched g s a) refl
       where
-        in-memory : watched g s a ≡ true → holds g a ≡ true
-        in-memory e = and-both (holds g a) _ e .0
-
-        go : (t : Bool) → watched g s a ≡ t → Stands g (touched (pageOf a) ∷ h) (cond {A = Report × List ℕ} t (record { examined = 2 ^ g .e }, evicted g s a) (record { examined = 0 }, s) .1)
-        go true e = swept-places (sym (watched-marked a) ∙ e) (in-memory e)
-        go false e = unwatched (sym (watched-marked a) ∙ e)
+        go : (t : Bool) → watched g s a ≡ t → Stands g (touched (pageOf a) ∷ h) (noticedIn g s a .1)
+        go true e = rw e (swept-places (sym (watched-marked a) ∙ e) (and-both (holds g a) _ e .0))
+        go false e = rw e (unwatched (sym (watched-marked a) ∙ e))
 
 -- the first report of a sum
 pub alone : (r : Report) → summed (record { examined = 0 }) r ≡ r

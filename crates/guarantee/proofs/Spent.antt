@@ -2,14 +2,14 @@
 -- Assumes nothing.
 use mathlib.Core.Path.{_≡_, refl, sym, ap, ap₂, subst, _∙_}
 use mathlib.Core.List.{List, [], _∷_, _++_}
-use Prim.Native.Nat.{ℕ, _+_, _-_, _*_, _^_, _≤_}
+use Prim.Native.Nat.{ℕ, _+_, _*_, _^_, _≤_}
 use native.Mathlib.Omega.{arith}
 use lib.ListN.{length}
 use Rattle.store.specs.Layout.{slotOf}
 use Rattle.store.specs.declared.Geometry.{Geometry}
 use Rattle.store.specs.declared.Opened.the-variants.{Sound}
 use Rattle.cache.specs.Answers.{reportValue}
-use Rattle.cache.specs.Calls.{makeJudged, insertJudged, noticeCall}
+use Rattle.cache.specs.Calls.{makeJudged, insertJudged}
 use Rattle.cache.specs.declared.Judged.{Judged}
 use Rattle.cache.specs.declared.Judged.the-variants.{Accepted, Rejected}
 use Rattle.cache.specs.declared.Report.{Report}
@@ -17,7 +17,7 @@ use Rattle.write.specs.Write.{writeJudged}
 use Rattle.history.specs.History.{Event, inserted, touched, flushed, insertions, examined, total}
 use Rattle.history.proofs.Bound.{bound}
 use Rattle.guarantee.specs.Calls.{Use, lookup, insert, notice, flush, generation, write, Call, make, uses, Lent, done, run}
-use Rattle.guarantee.specs.Past.{Past, unmade, since, pageOf, ifAccepted, crossed, events, told, past, pastOf}
+use Rattle.guarantee.specs.Past.{Past, unmade, since, pageOf, ifAccepted, events, told, past, pastOf}
 use Rattle.guarantee.specs.Stands.{Stands, Follows}
 use Rattle.guarantee.specs.Answers.{report, reports, writeAnswered, slots, spent}
 use Rattle.guarantee.proofs.Simulation.{notice-reports, alone}
