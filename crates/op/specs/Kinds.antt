@@ -1,4 +1,4 @@
--- The kinds in the order of the Rust enums. A kind's number is its position, from 0: the lists are all that is to be read here.
+-- The kinds in the order of the Rust enums, and their numbers, which are their positions from 0.
 -- Assumes nothing.
 use Prim.Native.Nat.{ℕ, _<_}
 use mathlib.Core.Path.{_≡_}
@@ -38,13 +38,13 @@ branchKinds = Beq ∷ Bne ∷ Blt ∷ Bge ∷ Bltu ∷ Bgeu ∷ []
 abbrev pub kindAt : ℕ → KindAt
 kindAt n = getD (map Known aluKinds) n Unknown
 
--- a number for each kind that is its position in a list
+-- what makes numbers the positions in a list: each kind stands at its number, and nowhere else
 pub record Positions {A : Type 0} (kinds : List A) (number : A → ℕ) : Type 0 where
   pub below : (k : A) → number k < length kinds
   pub at : (k other : A) → getD kinds (number k) other ≡ k
   pub only : (n : ℕ) (other : A) → n < length kinds → number (getD kinds n other) ≡ n
 
--- the numbers; proofs/Numbers.antt shows that they are these positions
+-- the numbers; proofs/Numbers.antt shows that they are the positions, so the lists say all of it
 abbrev pub aluNumber : AluKind → ℕ
 aluNumber = elim [ Add ↦ 0 | Sub ↦ 1 | Sll ↦ 2 | Slt ↦ 3 | Sltu ↦ 4 | Xor ↦ 5 | Srl ↦ 6 | Sra ↦ 7 | Or ↦ 8 | And ↦ 9 | Addw ↦ 10 | Subw ↦ 11 | Sllw ↦ 12 | Srlw ↦ 13 | Sraw ↦ 14 | Mul ↦ 15 | Mulh ↦ 16 | Mulhsu ↦ 17 | Mulhu ↦ 18 | Div ↦ 19 | Divu ↦ 20 | Rem ↦ 21 | Remu ↦ 22 | Mulw ↦ 23 | Divw ↦ 24 | Divuw ↦ 25 | Remw ↦ 26 | Remuw ↦ 27 | Andn ↦ 28 | Orn ↦ 29 | Xnor ↦ 30 | Rol ↦ 31 | Ror ↦ 32 | Rolw ↦ 33 | Rorw ↦ 34 | Min ↦ 35 | Max ↦ 36 | Minu ↦ 37 | Maxu ↦ 38 | Clz ↦ 39 | Ctz ↦ 40 | Cpop ↦ 41 | Clzw ↦ 42 | Ctzw ↦ 43 | Cpopw ↦ 44 | SextB ↦ 45 | SextH ↦ 46 | ZextH ↦ 47 | Rev8 ↦ 48 | OrcB ↦ 49 | Sh1add ↦ 50 | Sh2add ↦ 51 | Sh3add ↦ 52 | AddUw ↦ 53 | Sh1addUw ↦ 54 | Sh2addUw ↦ 55 | Sh3addUw ↦ 56 | SlliUw ↦ 57 ]
 
