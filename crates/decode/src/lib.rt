@@ -60,7 +60,7 @@ pub fn decode_word(raw: u32, lent: &mut [u8]) -> Answer
 {
     if is_record(lent.len()) {
         match put_word(raw, lent, 0, 0) {
-            Put::Recorded(_, _) => Answer::Done,
+            Put::Recorded(_, _) => Answer::Done, // the word's record
             Put::Nothing => Answer::Refused(Refusal::NoOp),
         }
     } else {
@@ -74,7 +74,7 @@ pub fn decode_halfword(raw: u16, lent: &mut [u8]) -> Answer
 {
     if is_record(lent.len()) {
         match put_halfword(raw, lent, 0, 0) {
-            Put::Recorded(_, _) => Answer::Done,
+            Put::Recorded(_, _) => Answer::Done, // the halfword's record
             Put::Nothing => Answer::Refused(Refusal::NoOp),
         }
     } else {

@@ -104,7 +104,7 @@ fn form_rest(s: &[u8], address: u64, lent: &mut [u8]) -> Answer
     bits::fill(&mut lent[BlockRecord::HEAD + count * OpRecord::LEN..], 0);
     let head = block::head_bytes(address, count as u16, len as u16);
     bits::copy_all(&head, &mut lent[0..BlockRecord::HEAD]);
-    Answer::Done
+    Answer::Done // the whole record
 }
 
 // Whether forming may begin, by the lengths of the memory and of the lent record.
