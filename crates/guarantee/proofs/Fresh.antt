@@ -120,17 +120,16 @@ module _ (form : Former) where
     unfolding events
     write-still g h s m y at n v i = go (writeJudged (Sound g) (length m) at n) refl
       where
-        accepted : (k : Geometry) → k ≡ g → Granted s (length m) at n g → Fresh form (since g (crossed at (at + n - 1) ++ h)) m → Fresh form (since g (crossed at (at + n - 1) ++ h)) (patch m (at - k .base) (le n v))
-        accepted k e t i a r q =
+        accepted : Granted s (length m) at n g → Fresh form (since g (crossed at (at + n - 1) ++ h)) m → Fresh form (since g (crossed at (at + n - 1) ++ h)) (patch m (at - g .base) (le n v))
+        accepted t i a r q =
             let w = cross-apart g h at (at + n - 1) a r q in
             let able = fits-accepted g s (y .sound) a r (shown-was (slotOf g) pageOf (Possible g) h (y .accepted) a r (w .2)) .able in
             let b = opened-fits s g (y .sound) .bounds in
-            ap (λ (z : Geometry). form g (patch m (at - z .base) (le n v)) a) e
-            ∙ sym (local g m (patch m (at - g .base) (le n v)) a (sym (length-patch m (at - g .base) (le n v) (room s m at n v g t b))) (untouched s m at n v g t b a able (w .0) (w .1)))
+            sym (local g m (patch m (at - g .base) (le n v)) a (sym (length-patch m (at - g .base) (le n v) (room s m at n v g t b))) (untouched s m at n v g t b a able (w .0) (w .1)))
             ∙ i a r q
 
         go : (j : Judged) → writeJudged (Sound g) (length m) at n ≡ j → Fresh form (since g (events (length m) g (write at n v) ++ h)) (writeCall s m at n v .2)
-        go (Accepted k) e = let own = write-own g h s y (length m) at n k e in rw (y .sound, e) (accepted k (own .0) (subst (Granted s (length m) at n) (own .0) (own .1)) (rw e at i))
+        go (Accepted k) e = let own = write-own g h s y (length m) at n k e in rw (y .sound, own .0) (accepted (own .1) (rw (own .0) at i))
         go (Rejected why) e = rw (y .sound, e) (rw e at i)
 
     -- a call leaves the memory that what is shown forms from

@@ -21,11 +21,10 @@ use Rattle.cache.specs.declared.ReportAnswer.the-variants.{Reported}
 use Rattle.cache.specs.declared.Judged.{Judged}
 use Rattle.cache.specs.declared.Judged.the-variants.{Accepted, Rejected}
 use Rattle.write.specs.Write.{writeJudged, writeCall}
-use Rattle.write.specs.Write as writes
 use Rattle.history.specs.History.{Event, insertions, shown, marked, Lives, Marked}
 use Rattle.history.proofs.Sentences.{shown-lives, lives-shown, marked-is, is-marked, shown-was}
 use Rattle.guarantee.specs.Calls.{write, Call, Lent, run, lookedUp}
-use Rattle.guarantee.specs.Past.{Past, since, pageOf, crossed, events, pastOf}
+use Rattle.guarantee.specs.Past.{Past, since, pageOf, events, pastOf}
 use Rattle.guarantee.specs.Stands.{Stands, Follows}
 use Rattle.guarantee.specs.Answers.{lookupAnswered, partFor, report, reports, answered, writeAnswered}
 use Rattle.guarantee.proofs.Simulation.{Possible, fits-accepted, notice-reports, write-reports}
@@ -37,14 +36,12 @@ pub write-is : (g : Geometry) (h : List Event) (s : List ℕ) → Stands g h s �
 unfolding events
 write-is g h s y m a n v = go (writeJudged (Sound g) (length m) a n) refl
   where
-    accepted : (k : Geometry) → k ≡ g → writes.touched k s a (a + n - 1) .0 ≡ reports g h (crossed a (a + n - 1))
-    accepted k e = ap (λ (z : Geometry). writes.touched z s a (a + n - 1) .0) e ∙ write-reports g h s y a (a + n - 1)
-
     go : (j : Judged) → writeJudged (Sound g) (length m) a n ≡ j → writeCall s m a n v .0 ≡ writeAnswered (writeJudged (Sound g) (length m) a n) (reports g h (events (length m) g (write a n v)))
-    go (Accepted k) e = rw (y .sound, e) (ap Reported (accepted k (write-own g h s y (length m) a n k e .0)))
+    go (Accepted k) e = let own = write-own g h s y (length m) a n k e in rw (y .sound, own .0) (ap Reported (write-reports g h s y a (a + n - 1)))
     go (Rejected why) e = rw (y .sound, e)
 
 module _ (p : Past) (l : Lent) (start : Follows p (l .store)) (calls : List Call) (g : Geometry) (h : List Event) (is : pastOf p calls l ≡ since g h) where
+  -- the store stands for the past that the calls tell
   pub stands : Stands g h (run calls l .store)
   stands = subst (λ (z : Past). Follows z (run calls l .store)) is (kept p l start calls .follows)
 

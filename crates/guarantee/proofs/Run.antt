@@ -29,7 +29,7 @@ use Rattle.write.specs.Write as writes
 use Rattle.write.proofs.Granted.{Granted, write-granted}
 use Rattle.history.specs.History.{Event, inserted}
 use Rattle.guarantee.specs.Calls.{Use, lookup, insert, notice, flush, generation, write, Call, make, uses, Lent, storing, done, run}
-use Rattle.guarantee.specs.Past.{Past, unmade, since, pageOf, ifAccepted, crossed, events, told, past, pastOf}
+use Rattle.guarantee.specs.Past.{Past, unmade, since, pageOf, ifAccepted, events, told, past, pastOf}
 use Rattle.guarantee.specs.Stands.{Stands, Follows}
 use Rattle.guarantee.proofs.Simulation.{make-keeps, flush-keeps, insert-keeps, notice-keeps, write-keeps}
 
@@ -114,35 +114,30 @@ sound-same k g e = cc
 -- each call keeps a store that stands for a past
 module _ (g : Geometry) (h : List Event) (s : List ℕ) (y : Stands g h s) where
   -- what the store's judges accept is its own geometry
-  pub insert-own : (a : ℕ) (rec : List ℕ) (k : Geometry) → insertJudged (Sound g) a rec ≡ Accepted k → k ≡ g
-  insert-own a rec k e = sound-same k g (sym (insert-taken s a rec k (ap (λ (o : Opened). insertJudged o a rec) (y .sound) ∙ e) .sound) ∙ y .sound)
+  insert-own : (a : ℕ) (rec : List ℕ) (k : Geometry) → insertJudged (Sound g) a rec ≡ Accepted k → insertJudged (Sound g) a rec ≡ Accepted g
+  insert-own a rec k e = e ∙ ap Accepted (sound-same k g (sym (insert-taken s a rec k (ap (λ (o : Opened). insertJudged o a rec) (y .sound) ∙ e) .sound) ∙ y .sound))
 
-  pub write-own : (room a n : ℕ) (k : Geometry) → writeJudged (Sound g) room a n ≡ Accepted k → (k ≡ g) × Granted s room a n k
+  pub write-own : (room a n : ℕ) (k : Geometry) → writeJudged (Sound g) room a n ≡ Accepted k → (writeJudged (Sound g) room a n ≡ Accepted g) × Granted s room a n g
   write-own room a n k e =
       let t = write-granted s room a n k (ap (λ (o : Opened). writeJudged o room a n) (y .sound) ∙ e) in
-      (sound-same k g (sym (t .sound) ∙ y .sound), t)
+      let same = sound-same k g (sym (t .sound) ∙ y .sound) in
+      (e ∙ ap Accepted same, subst (Granted s room a n) same t)
 
   module _ (m : List ℕ) where
     insert-follows : (a : ℕ) (rec : List ℕ) → Stands g (events (length m) g (insert a rec) ++ h) (insertCall s a rec .1)
     unfolding events
     insert-follows a rec = go (insertJudged (Sound g) a rec) refl
       where
-        accepted : (k : Geometry) → k ≡ g → insertJudged (Sound g) a rec ≡ Accepted k → Stands g (inserted a rec ∷ h) (insertedIn k s a rec)
-        accepted k e j = subst (λ (z : Geometry). Stands g (inserted a rec ∷ h) (insertedIn z s a rec)) (sym e) (insert-keeps g h s y a rec (j ∙ ap Accepted e))
-
         go : (j : Judged) → insertJudged (Sound g) a rec ≡ j → Stands g (events (length m) g (insert a rec) ++ h) (insertCall s a rec .1)
-        go (Accepted k) e = rw (y .sound, e) (accepted k (insert-own a rec k e) e)
+        go (Accepted k) e = let own = insert-own a rec k e in rw (y .sound, own) (insert-keeps g h s y a rec own)
         go (Rejected why) e = rw (y .sound, e) y
 
     write-follows : (a n v : ℕ) → Stands g (events (length m) g (write a n v) ++ h) (writeCall s m a n v .1)
     unfolding events
     write-follows a n v = go (writeJudged (Sound g) (length m) a n) refl
       where
-        accepted : (k : Geometry) → k ≡ g → Stands g (crossed a (a + n - 1) ++ h) (writes.touched k s a (a + n - 1) .1)
-        accepted k e = subst (λ (z : Geometry). Stands g (crossed a (a + n - 1) ++ h) (writes.touched z s a (a + n - 1) .1)) (sym e) (write-keeps g h s y a (a + n - 1))
-
         go : (j : Judged) → writeJudged (Sound g) (length m) a n ≡ j → Stands g (events (length m) g (write a n v) ++ h) (writeCall s m a n v .1)
-        go (Accepted k) e = rw (y .sound, e) (accepted k (write-own (length m) a n k e .0))
+        go (Accepted k) e = let own = write-own (length m) a n k e in rw (y .sound, own .0) (write-keeps g h s y a (a + n - 1))
         go (Rejected why) e = rw (y .sound, e) y
 
 keeps : (g : Geometry) (h : List Event) (l : Lent) → Stands g h (l .store) → (c : Use) → Stands g (events (length (l .memory)) g c ++ h) (done c l .1 .store)
