@@ -1,43 +1,27 @@
 -- An op whose registers are at most 31 has a well-formed record. What the decoders give is such an op.
 -- Assumes nothing.
-use mathlib.Core.Path.{_≡_, refl, sym, ap, _∙_}
-use mathlib.Core.Bool.{Bool, true, false}
+use mathlib.Core.Path.{_≡_, refl}
+use mathlib.Core.Bool.{true}
 use mathlib.Core.List.{List, []}
-use Prim.Native.Nat.{ℕ, suc, _-_, _%_, _^_, _≤_, _<_}
+use Prim.Native.Nat.{ℕ, suc, _-_, _%_, _^_, _<_}
 use native.Mathlib.Omega.{arith}
 use native.Mathlib.Nat.{mod-eq-of-lt}
 use lib.Dec.{leb}
-use lib.ListN.{length, getD, List·getD-eq-default}
-use borrow.Author.Tests.{le-leb, leb-false}
+use lib.ListN.{length}
+use borrow.Author.Tests.{le-leb}
 use Rattle.bits.specs.Bytes.{le, doublewordAt}
 use Rattle.bits.proofs.Bytes.{doubleword-le}
-use Rattle.op.specs.Kinds.{aluNumber, aluKinds, loadNumber, loadKinds, storeNumber, storeKinds, branchNumber, branchKinds}
+use Rattle.op.specs.Kinds.{Positions}
 use Rattle.op.specs.Proper.{Proper}
 use Rattle.op.specs.Record.{bits64, opFields, opRecord}
 use Rattle.op.specs.WellFormed.{any, limits, ilenKnown, opWellFormed}
 use Rattle.op.specs.declared.Op.{Op}
 use Rattle.op.specs.declared.Op.the-variants.{Lui, Auipc, AluImm, AluReg, Load, Store, Branch, Jal, Jalr, Fallback}
-use Rattle.op.specs.declared.AluKind.{AluKind}
-use Rattle.op.specs.declared.AluKind.the-variants.{Add, Sub}
-use Rattle.op.specs.declared.LoadKind.{LoadKind}
-use Rattle.op.specs.declared.LoadKind.the-variants.{Lb, Lbu}
-use Rattle.op.specs.declared.StoreKind.{StoreKind}
-use Rattle.op.specs.declared.StoreKind.the-variants.{Sb, Sh}
-use Rattle.op.specs.declared.BranchKind.{BranchKind}
-use Rattle.op.specs.declared.BranchKind.the-variants.{Beq, Bne}
 use Rattle.op.proofs.Numbers.{alu-positions, load-positions, store-positions, branch-positions}
 
-alu-known : (k : AluKind) → leb (aluNumber k) 57 ≡ true
-alu-known k = le-leb (aluNumber k) 57 (omega (arith, alu-positions .below k))
-
-load-known : (k : LoadKind) → leb (loadNumber k) 6 ≡ true
-load-known k = le-leb (loadNumber k) 6 (omega (arith, load-positions .below k))
-
-store-known : (k : StoreKind) → leb (storeNumber k) 3 ≡ true
-store-known k = le-leb (storeNumber k) 3 (omega (arith, store-positions .below k))
-
-branch-known : (k : BranchKind) → leb (branchNumber k) 5 ≡ true
-branch-known k = le-leb (branchNumber k) 5 (omega (arith, branch-positions .below k))
+-- a kind's number is at most the last position
+known : {A : Type 0} {kinds : List A} {number : A → ℕ} → Positions kinds number → (most : ℕ) → length kinds ≡ suc most → (k : A) → leb (number k) most ≡ true
+known p most e k = le-leb _ most (omega (arith, p .below k))
 
 imm-any : (x : ℕ) → leb (doublewordAt (le 8 x) 0) any ≡ true
 unfolding le
@@ -51,11 +35,11 @@ pub proper-well : (op : Op) (ilen off : ℕ) → Proper op → ilenKnown (opFiel
 unfolding opWellFormed limits le
 proper-well (Lui rd imm) ilen off p i = simp (i, le-leb _ _ (p .0), imm-any (bits64 imm))
 proper-well (Auipc rd imm) ilen off p i = simp (i, le-leb _ _ (p .0), imm-any (bits64 imm))
-proper-well (AluImm kind rd rs1 imm) ilen off p i = simp (i, alu-known kind, le-leb _ _ (p .0), le-leb _ _ (p .1), imm-any (bits64 imm))
-proper-well (AluReg kind rd rs1 rs2) ilen off p i = simp (i, alu-known kind, le-leb _ _ (p .0), le-leb _ _ (p .1), le-leb _ _ (p .2))
-proper-well (Load kind rd rs1 imm) ilen off p i = simp (i, load-known kind, le-leb _ _ (p .0), le-leb _ _ (p .1), imm-any (bits64 imm))
-proper-well (Store kind rs1 rs2 imm) ilen off p i = simp (i, store-known kind, le-leb _ _ (p .1), le-leb _ _ (p .2), imm-any (bits64 imm))
-proper-well (Branch kind rs1 rs2 offset) ilen off p i = simp (i, branch-known kind, le-leb _ _ (p .1), le-leb _ _ (p .2), imm-any (bits64 offset))
+proper-well (AluImm kind rd rs1 imm) ilen off p i = simp (i, known alu-positions 57 refl kind, le-leb _ _ (p .0), le-leb _ _ (p .1), imm-any (bits64 imm))
+proper-well (AluReg kind rd rs1 rs2) ilen off p i = simp (i, known alu-positions 57 refl kind, le-leb _ _ (p .0), le-leb _ _ (p .1), le-leb _ _ (p .2))
+proper-well (Load kind rd rs1 imm) ilen off p i = simp (i, known load-positions 6 refl kind, le-leb _ _ (p .0), le-leb _ _ (p .1), imm-any (bits64 imm))
+proper-well (Store kind rs1 rs2 imm) ilen off p i = simp (i, known store-positions 3 refl kind, le-leb _ _ (p .1), le-leb _ _ (p .2), imm-any (bits64 imm))
+proper-well (Branch kind rs1 rs2 offset) ilen off p i = simp (i, known branch-positions 5 refl kind, le-leb _ _ (p .1), le-leb _ _ (p .2), imm-any (bits64 offset))
 proper-well (Jal rd offset) ilen off p i = simp (i, le-leb _ _ (p .0), imm-any (bits64 offset))
 proper-well (Jalr rd rs1 imm) ilen off p i = simp (i, le-leb _ _ (p .0), le-leb _ _ (p .1), imm-any (bits64 imm))
 proper-well (Fallback raw) ilen off p i = simp (i, raw-word raw (p .3))
