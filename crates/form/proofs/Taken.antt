@@ -1,4 +1,4 @@
--- What was put into the lent bytes tells what stands at the offset; and a word without an op, stopped at or kept as Fallback.
+-- What was put into the lent bytes tells what was decoded; and what forming makes of it.
 -- Assumes nothing.
 use mathlib.Core.Path.{_≡_, refl, ap, _∙_}
 use mathlib.Core.Bool.{true, false}
@@ -52,10 +52,9 @@ module _ (len place at : ℕ) (s : List ℕ) {t : List ℕ} {p : Put} where
       rw (same op, number) (ap (λ (o : Put × List ℕ). (Recorded (opFields op .op) len, o .1)) e)
   kept f same None told e = let put : p ≡ Nothing = ap (λ (o : Put × List ℕ). o .0) e in cc
 
-module _ (place at : ℕ) (s : List ℕ) {t : List ℕ} (raw : ℕ) where
-  module _ (d : Decoded) (h : (d ≡ None) × (t ≡ s)) where
-    pub word-stopped : stopsBlock raw ≡ true → (Nothing, t) ≡ putOf (orFallback raw d) 4 place at s
-    word-stopped e = rw (h .0, h .1, e)
+module _ (place at : ℕ) (s : List ℕ) {t : List ℕ} (raw : ℕ) (d : Decoded) (h : (d ≡ None) × (t ≡ s)) where
+  pub word-stopped : stopsBlock raw ≡ true → (Nothing, t) ≡ putOf (orFallback raw d) 4 place at s
+  word-stopped e = rw (h .0, h .1, e)
 
-    pub word-fallback : {u : List ℕ} → stopsBlock raw ≡ false → u ≡ patch t place (opRecord (Fallback raw) 4 at) → (Recorded 9 4, u) ≡ putOf (orFallback raw d) 4 place at s
-    word-fallback e wrote = rw (wrote, h .0, h .1, e)
+  pub word-fallback : {u : List ℕ} → stopsBlock raw ≡ false → u ≡ patch t place (opRecord (Fallback raw) 4 at) → (Recorded 9 4, u) ≡ putOf (orFallback raw d) 4 place at s
+  word-fallback e wrote = rw (wrote, h .0, h .1, e)
