@@ -1,4 +1,4 @@
-// What a call answers: that it is done, or why it is refused, with document 01's number for each. Every call answers by these.
+// What a call answers: that it is done, or why it is refused, with document 01's number for each. Every refusal is one of these.
 ghost use mathlib.Core.Path.{_≡_};
 ghost use Rattle.answer.specs.Answer.{refusalNumber, answerNumber, valuedNumber, valuedValue};
 

@@ -4,19 +4,13 @@ use mathlib.Core.Path.{_≡_, refl, sym}
 use mathlib.Core.Bool.{Bool, true, false}
 use Prim.Native.Nat.{ℕ, _+_, _-_, _≤_}
 use native.Mathlib.Omega.{arith}
-use lib.Dec.{ltb, leb}
-use borrow.Author.Tests.{lt-ltb, ltb-true, le-leb, leb-true}
+use lib.Dec.{leb}
+use borrow.Author.Tests.{le-leb, leb-true}
 
 same : (s t : Bool) → (s ≡ true → t ≡ true) → (t ≡ true → s ≡ true) → s ≡ t
 same true t f g = sym (f refl)
 same false true f g = g refl
 same false false f g = refl
-
-pub below : (a b n : ℕ) → b ≤ a → ltb (a - b) n ≡ leb (a + 1) (b + n)
-below a b n h =
-    same (ltb (a - b) n) (leb (a + 1) (b + n))
-    (λ t. le-leb (a + 1) (b + n) (omega (arith, ltb-true (a - b) n t)))
-    (λ t. lt-ltb (a - b) n (omega (arith, leb-true (a + 1) (b + n) t)))
 
 pub apart : (a b m n : ℕ) → b ≤ a → n ≤ m → leb (a - b) (m - n) ≡ leb (a + n) (b + m)
 apart a b m n h k =

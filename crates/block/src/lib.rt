@@ -76,10 +76,7 @@ pub fn spans(size: u64, base: u64, address: u64, n: u64) -> bool
 pub fn in_memory(size: u64, base: u64, address: u64) -> bool
     ensures { λ r. ⌜ r ≡ inMemory size base address ⌝ }
 {
-    if address < base {
-        return false;
-    }
-    address - base < size
+    spans(size, base, address, 1)
 }
 
 // The sixteen bytes before a block's ops.

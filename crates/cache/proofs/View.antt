@@ -8,11 +8,11 @@ use native.Mathlib.Omega.{arith}
 use lib.Dec.{eqb}
 use lib.ListN.{length}
 use Rattle.store.specs.Layout.{opened, Fitting, holds, pageOf, slotOf, generationOf, bumped}
-use Rattle.store.specs.Places.{pageBit, withBit, placeFor, emptied}
+use Rattle.store.specs.Places.{placeIn, pageBit, withBit, placeFor, emptied}
 use Rattle.store.specs.declared.Geometry.{Geometry}
 use Rattle.store.proofs.Known.{page-lt, slot-lt}
 use Rattle.store.proofs.Places.{length-emptied}
-use Rattle.store.proofs.View.{placeIn, length-with, opened-with, generation-with, bits-with, place-with, length-bumped, opened-bumped, generation-bumped, bits-bumped, place-bumped, length-put, opened-put, generation-put, bits-put, place-put, fitting-each, opened-each, generation-each, bits-each, place-each}
+use Rattle.store.proofs.View.{length-with, opened-with, generation-with, bits-with, place-with, length-bumped, opened-bumped, generation-bumped, bits-bumped, place-bumped, length-put, opened-put, generation-put, bits-put, place-put, fitting-each, opened-each, generation-each, bits-each, place-each}
 use Rattle.cache.specs.Calls.{insertedIn, evicted}
 
 -- emptying keeps a place's length

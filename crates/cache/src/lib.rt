@@ -4,7 +4,7 @@ ghost use mathlib.Core.Bool.{true};
 ghost use mathlib.Core.List.{_++_};
 ghost use Prim.Native.Nat.{_+_, _<_, _^_};
 ghost use lib.ListN.{length};
-ghost use Rattle.store.specs.Layout.{header, opened, Bounded, Fitting, holds};
+ghost use Rattle.store.specs.Layout.{header, opened, Fitting, holds};
 ghost use Rattle.store.specs.Places.{placeFor, blank};
 ghost use Rattle.cache.specs.Answers.{lookupNumber, lookupValue, reportNumber, reportValue};
 ghost use Rattle.cache.specs.Calls.{makeJudged, makeCall, lookupCall, shown, insertJudged, insertedIn, insertCall, summed, watched, evicted, noticedIn, noticeCall, flushCall, generationCall};

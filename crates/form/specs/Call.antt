@@ -13,7 +13,7 @@ use Rattle.block.specs.Memory.{goodMemory, inMemory}
 use Rattle.block.specs.Record.{Insn, blockRecord}
 use Rattle.form.specs.Forming.{formed}
 
--- 2, 6, 3: whether forming may begin, by the lengths of the memory and of the lent record, the base and the address
+-- 2, 6, 3, by the lengths of the memory and of the lent record, the base and the address; Done where forming may begin
 abbrev pub formJudged : ℕ → ℕ → ℕ → ℕ → Answer
 formJudged size room base address =
     cond (not (goodMemory size base)) (Refused BadGeometry)

@@ -32,9 +32,9 @@ use Rattle.history.specs.History.{Event, inserted, touched, flushed, Every, non
 use Rattle.history.proofs.Sentences.{no-some, shown-was}
 use Rattle.guarantee.specs.Calls.{Use, lookup, insert, notice, flush, generation, write, Call, make, uses, Lent, done, run, lookedUp}
 use Rattle.guarantee.specs.Past.{Past, unmade, since, pageOf, ifAccepted, crossed, events, told, past, pastOf}
-use Rattle.guarantee.specs.Stands.{Stands, Follows}
+use Rattle.guarantee.specs.Stands.{Possible, Stands, Follows}
 use Rattle.guarantee.specs.Honest.{Former, Local, Fresh, Honest}
-use Rattle.guarantee.proofs.Simulation.{Possible, fits-accepted}
+use Rattle.guarantee.proofs.Simulation.{fits-accepted}
 use Rattle.guarantee.proofs.Run.{write-own, kept}
 use Rattle.guarantee.proofs.Guarantee.{hit-shown}
 

@@ -25,9 +25,9 @@ use Rattle.history.specs.History.{Event, insertions, shown, marked, Lives, Mark
 use Rattle.history.proofs.Sentences.{shown-lives, lives-shown, marked-is, is-marked, shown-was}
 use Rattle.guarantee.specs.Calls.{write, Call, Lent, run, lookedUp}
 use Rattle.guarantee.specs.Past.{Past, since, pageOf, events, pastOf}
-use Rattle.guarantee.specs.Stands.{Stands, Follows}
+use Rattle.guarantee.specs.Stands.{Possible, Stands, Follows}
 use Rattle.guarantee.specs.Answers.{lookupAnswered, partFor, report, reports, answered, writeAnswered}
-use Rattle.guarantee.proofs.Simulation.{Possible, fits-accepted, notice-reports, write-reports}
+use Rattle.guarantee.proofs.Simulation.{fits-accepted, notice-reports, write-reports}
 use Rattle.guarantee.proofs.Lookup.{lookup-is, lookup-returns}
 use Rattle.guarantee.proofs.Run.{write-own, kept}
 

@@ -14,14 +14,14 @@ use Rattle.bits.specs.Bytes.{doublewordAt}
 use Rattle.bits.proofs.Every.{decide}
 use Rattle.bits.proofs.Tests.{and-both, true-false}
 use Rattle.store.specs.Layout.{header, inBounds, geometry, opened, holds, slotOf, generationOf, Bounded, Fitting}
-use Rattle.store.specs.Places.{pageBit, emptyPlace, placeFor, recordIn, emptied, blank}
+use Rattle.store.specs.Places.{placeIn, pageBit, emptyPlace, placeFor, recordIn, emptied, blank}
 use Rattle.store.specs.declared.Geometry.{Geometry}
 use Rattle.store.specs.declared.Opened.{Opened}
 use Rattle.store.specs.declared.Opened.the-variants.{Sound}
 use Rattle.store.proofs.Known.{holds-are, are-held, page-lt, slot-lt}
 use Rattle.store.proofs.Held.{place-long, place-named, record-back}
 use Rattle.store.proofs.Places.{length-empty}
-use Rattle.store.proofs.View.{placeIn, opened-flushed, generation-flushed, bits-flushed, place-flushed, opened-made, generation-made, bits-made, place-made}
+use Rattle.store.proofs.View.{opened-flushed, generation-flushed, bits-flushed, place-flushed, opened-made, generation-made, bits-made, place-made}
 use Rattle.cache.specs.Calls.{insertJudged, watched, evicted, noticedIn, summed, insertedIn}
 use Rattle.cache.specs.declared.Judged.the-variants.{Accepted}
 use Rattle.cache.specs.declared.Report.{Report}
@@ -32,7 +32,7 @@ use Rattle.history.specs.History.{Event, inserted, touched, flushed, Every, non
 use Rattle.history.proofs.Sentences.{no-some}
 use Rattle.history.proofs.Places.{Place, empty, full, swept, places, Was, was, full-shown, shown-full, empty-none}
 use Rattle.guarantee.specs.Past.{pageOf, crossed}
-use Rattle.guarantee.specs.Stands.{Stands}
+use Rattle.guarantee.specs.Stands.{Possible, Stands}
 use Rattle.guarantee.specs.Answers.{report, reports}
 
 -- an accepted insertion: its address lies in memory, and what the place holds for the record is as long as a place, names the address and shows the record
@@ -46,10 +46,6 @@ pub fits-accepted : (g : Geometry) (s : List ℕ) → opened s ≡ Sound g → (
 fits-accepted g s o a r e =
     let t = insert-taken s a r g (ap (λ (z : Opened). insertJudged z a r) o ∙ e) in
     record { able = t .inner; long = place-long g r s o (t .whole); named = place-named g r a (t .formed); back = record-back g r a (t .formed) }
-
--- no refused insertion
-abbrev pub Possible : Geometry → Event → Type 0
-Possible g = OfInserted (λ a r. insertJudged (Sound g) a r ≡ Accepted g)
 
 -- the bytes of a place
 abbrev pub bytesOf : Geometry → Place → List ℕ

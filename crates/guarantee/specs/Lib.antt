@@ -1,4 +1,4 @@
--- What any history of calls guarantees: the calls, what they tell of a store's past, and what an insertion must hold.
+-- What any history of calls guarantees: the calls, what they tell of a store's past, when a store stands for one, and what an insertion must hold.
 pub mod Calls
 pub mod Past
 pub mod Stands

@@ -14,7 +14,7 @@ use Rattle.write.specs.Write.{writeJudged}
 use Rattle.history.specs.History.{Event, inserted, touched, flushed}
 use Rattle.guarantee.specs.Calls.{Use, lookup, insert, notice, flush, generation, write, Call, make, uses, Lent}
 
--- nothing before an accepted Make; from then on the geometry it made, and the events since, the newest first
+-- nothing before a store is made; from then on its geometry, and the events since, the newest first
 pub data Past : Type 0 where
   unmade : Past
   since : Geometry → List Event → Past

@@ -227,7 +227,7 @@ pub enum KindAt {
     Unknown,
 }
 
-// The kind of a number.
+// The ALU kind at a position of the enum, from 0.
 pub fn kind_at(n: u64) -> KindAt
     ensures { λ r. ⌜ r ≡ kindAt n ⌝ }
 {

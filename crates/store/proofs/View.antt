@@ -19,17 +19,13 @@ use Rattle.bits.proofs.Bit.{bit-above}
 use Rattle.bits.specs.Bytes.{le, part, patch, doublewordAt}
 use Rattle.bits.proofs.Bytes.{length-le, length-patch, length-part, getD-part, part-same, part-before, part-behind, getD-before, getD-behind, doubleword-le, doubleword-same, doubleword-before}
 use Rattle.store.specs.Layout.{signature, header, inBounds, front, storeSize, geometry, stated, isStore, opened, Bounded, Fitting, placeAt, generationOf, bumped}
-use Rattle.store.specs.Places.{pageBit, putBit, withBit, emptyPlace, vacated, eachPlace, copies, blank}
+use Rattle.store.specs.Places.{pageBit, placeIn, putBit, withBit, emptyPlace, vacated, eachPlace, copies, blank}
 use Rattle.store.specs.declared.Geometry.{Geometry}
 use Rattle.store.specs.declared.Opened.{Opened}
 use Rattle.store.specs.declared.Opened.the-variants.{Sound, NotAStore}
 use Rattle.store.proofs.Bits.{bit-with}
 use Rattle.store.proofs.Known.{after, bounds-are, Header, opened-sound, place-fits, front-fits, bit-fits}
 use Rattle.store.proofs.Places.{empty-made, length-empty, length-vacated, length-copies}
-
--- the bytes of slot i's place
-abbrev pub placeIn : Geometry → List ℕ → ℕ → List ℕ
-placeIn g s i = part s (placeAt g i) (g .size)
 
 -- eight bytes that are the same say the same number
 same-word : (k : ℕ) (z s : List ℕ) → ((j : ℕ) → k ≤ j → j < k + 8 → getD z j 0 ≡ getD s j 0) → doublewordAt z k ≡ doublewordAt s k

@@ -8,7 +8,7 @@ use lib.Dec.{eqb}
 use lib.ListN.{length, getD, set, replicate}
 use Rattle.bits.specs.Bits.{bit}
 use Rattle.bits.specs.Bytes.{le, doublewordAt, part, patch}
-use Rattle.store.specs.Layout.{front}
+use Rattle.store.specs.Layout.{front, placeAt}
 use Rattle.store.specs.declared.Geometry.{Geometry}
 
 -- bit p mod 8 of byte p / 8 of the bitmap
@@ -22,6 +22,10 @@ putBit false k x = bitAnd x (255 - 2 ^ k)
 
 unfoldable pub withBit : List ℕ → ℕ → Bool → List ℕ
 withBit s p on = set s (32 + p / 8) (putBit on (p % 8) (getD s (32 + p / 8) 0))
+
+-- the bytes of slot i's place
+abbrev pub placeIn : Geometry → List ℕ → ℕ → List ℕ
+placeIn g s i = part s (placeAt g i) (g .size)
 
 -- an empty place of z bytes: eight address bytes of 255, and zeros
 unfoldable pub emptyPlace : ℕ → List ℕ

@@ -85,7 +85,7 @@ pub extern "C" fn uv_insert(store: &mut [u8], address: u64, lent: &[u8]) -> u64
     answer.number()
 }
 
-// Notices a write at the address; the value is the slots examined.
+// Notices a write that was done at the address; the value is the slots examined.
 #[no_mangle]
 pub extern "C" fn uv_notice(store: &mut [u8], address: u64) -> Numbered
     ensures { λ r. ⌜ ((r .number, r .value), now (store .exit)) ≡ seen (both reportNumber reportValue) (noticeCall (now (store .entry)) address) ⌝ }

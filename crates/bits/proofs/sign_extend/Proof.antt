@@ -1,3 +1,5 @@
+-- `bits::sign_extend` meets its contract: below half the whole the number itself, else less the whole.
+-- Assumes nothing.
 use mathlib.Core.Path.{_∙_}
 use Prim.Native.Nat.{_<_, _≤_, _^_, _/_}
 use native.Mathlib.Omega.{arith}

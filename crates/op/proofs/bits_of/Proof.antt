@@ -1,3 +1,5 @@
+-- `op::bits_of` meets its contract: by a cast where the number is not negative, by its complement where it is.
+-- Assumes nothing.
 use native.Mathlib.Omega.{arith}
 use Rattle.op.proofs.Signed.{up, down, bits64-small}
 use Rattle.op.proofs.bits_of.Statement.{statement}
