@@ -11,7 +11,6 @@ use lib.Dec.{ltb, lit<, lit≤}
 use lib.Bits.{bitAnd, and-mask}
 use lib.IntN.{ℤ, pos, negsuc, _-ℤ_}
 use lib.Signed.{ltZ, shrZ}
-use mir.Val.{boolByte}
 use Rattle.answer.specs.declared.Valued.the-variants.{Value}
 use Rattle.bits.specs.Bits.{signed}
 use Rattle.bits.proofs.Bit.{lt-or-ge}
@@ -26,10 +25,6 @@ use Rattle.agree.proofs.AluBits.{and-is, or-is, xor-is, andn-is, orn-is
 use Rattle.agree.proofs.AluBytes.{rev8-is, orcb-is}
 use Rattle.agree.proofs.AluCounts.{clz-is, ctz-is, cpop-is, clzw-is, ctzw-is, cpopw-is}
 use Rattle.agree.proofs.AluSigns.{extended-is, word-kind, signed-same, sra-is, sraw-is, addw-is, sub-is, subw-is, less-is}
-
-cond-byte : (t : Bool) → boolByte t ≡ cond t 1 0
-cond-byte true = refl
-cond-byte false = refl
 
 -- the larger of two, whichever side is asked first
 larger : (a b u v : ℕ) → (u ≡ v → a ≡ b) → cond (ltb v u) a b ≡ cond (ltb u v) b a
@@ -59,8 +54,8 @@ pub agree : (kind : AluKind) (a b : ℕ) → a < 2 ^ 64 → b < 2 ^ 64 → rustA
 agree Add a b ha hb = refl
 agree Sub a b ha hb = ap Value (sub-is a b ha hb)
 agree Sll a b ha hb = ap Value (sll-is a b)
-agree Slt a b ha hb = ap Value (cond-byte (less a b) ∙ ap (λ (t : Bool). cond t 1 0) (less-is a b ha hb))
-agree Sltu a b ha hb = ap Value (cond-byte (ltb a b))
+agree Slt a b ha hb = ap (λ (t : Bool). Value (cond t 1 0)) (less-is a b ha hb)
+agree Sltu a b ha hb = refl
 agree Xor a b ha hb = ap Value (xor-is a b ha hb)
 agree Srl a b ha hb = ap Value (srl-is a b ha)
 agree Sra a b ha hb = ap Value (ap (λ (s : ℕ). bits64 (shrZ (signed 64 a) (2 ^ s))) (and-mask b 6) ∙ sra-is a (b % 2 ^ 6) ha)

@@ -8,8 +8,8 @@ use native.Mathlib.Nat.{mod-lt, mod-eq-of-lt, lt-of-le-of-lt}
 use lib.Dec.{ltb}
 use lib.Bits.{bitAnd, bitOr, bitXor, and-mask, and-lt, or-lt, xor-lt}
 use lib.Pow.{pow-pos, shr-le, ones-sub-lt}
-use Rattle.bits.specs.Bits.{bit, word}
-use Rattle.bits.proofs.Bit.{bit-lt, bit-mod, by-bits, word-same, bit-and, bit-or, bit-xor, bit-not}
+use Rattle.bits.specs.Bits.{bit, fromBits}
+use Rattle.bits.proofs.Bit.{bit-lt, bit-mod, by-bits, from-bits-same, bit-and, bit-or, bit-xor, bit-not}
 use Rattle.bits.proofs.Shift.{shl-bits, shr-bits, turned-bits, turned-back-bits, turned-lt}
 use Rattle.alu.specs.Rust.{asU32, widen, not64, shl, rotl}
 use Rattle.manual.specs.Alu.{extended, left, right, turnedLeft, turnedRight}
@@ -20,36 +20,36 @@ module _ (op f : ℕ → ℕ → ℕ)
     (small : (k a b : ℕ) → a < 2 ^ k → b < 2 ^ k → op a b < 2 ^ k)
     (each : (a b i : ℕ) → bit (op a b) i ≡ f (bit a i) (bit b i))
     (a b : ℕ) (ha : a < 2 ^ 64) where
-  plain : b < 2 ^ 64 → op a b ≡ word 64 (λ i. f (bit a i) (bit b i))
+  plain : b < 2 ^ 64 → op a b ≡ fromBits 64 (λ i. f (bit a i) (bit b i))
   plain hb = by-bits 64 (op a b) (λ i. f (bit a i) (bit b i)) (small 64 a b ha hb) (λ i h. each a b i)
 
-  negated : b < 2 ^ 64 → op a (not64 b) ≡ word 64 (λ i. f (bit a i) (1 - bit b i))
+  negated : b < 2 ^ 64 → op a (not64 b) ≡ fromBits 64 (λ i. f (bit a i) (1 - bit b i))
   negated hb =
       by-bits 64 (op a (not64 b)) (λ i. f (bit a i) (1 - bit b i)) (small 64 a (not64 b) ha (ones-sub-lt 64 b))
       (λ i h. each a (not64 b) i ∙ ap (f (bit a i)) (bit-not 64 b i hb h))
 
-pub and-is : (a b : ℕ) → a < 2 ^ 64 → b < 2 ^ 64 → bitAnd a b ≡ word 64 (λ i. min (bit a i) (bit b i))
+pub and-is : (a b : ℕ) → a < 2 ^ 64 → b < 2 ^ 64 → bitAnd a b ≡ fromBits 64 (λ i. min (bit a i) (bit b i))
 and-is = plain bitAnd min and-lt bit-and
 
-pub or-is : (a b : ℕ) → a < 2 ^ 64 → b < 2 ^ 64 → bitOr a b ≡ word 64 (λ i. max (bit a i) (bit b i))
+pub or-is : (a b : ℕ) → a < 2 ^ 64 → b < 2 ^ 64 → bitOr a b ≡ fromBits 64 (λ i. max (bit a i) (bit b i))
 or-is = plain bitOr max or-lt bit-or
 
-pub xor-is : (a b : ℕ) → a < 2 ^ 64 → b < 2 ^ 64 → bitXor a b ≡ word 64 (λ i. (bit a i + bit b i) % 2)
+pub xor-is : (a b : ℕ) → a < 2 ^ 64 → b < 2 ^ 64 → bitXor a b ≡ fromBits 64 (λ i. (bit a i + bit b i) % 2)
 xor-is = plain bitXor (λ x y. (x + y) % 2) xor-lt bit-xor
 
-pub andn-is : (a b : ℕ) → a < 2 ^ 64 → b < 2 ^ 64 → bitAnd a (not64 b) ≡ word 64 (λ i. min (bit a i) (1 - bit b i))
+pub andn-is : (a b : ℕ) → a < 2 ^ 64 → b < 2 ^ 64 → bitAnd a (not64 b) ≡ fromBits 64 (λ i. min (bit a i) (1 - bit b i))
 andn-is = negated bitAnd min and-lt bit-and
 
-pub orn-is : (a b : ℕ) → a < 2 ^ 64 → b < 2 ^ 64 → bitOr a (not64 b) ≡ word 64 (λ i. max (bit a i) (1 - bit b i))
+pub orn-is : (a b : ℕ) → a < 2 ^ 64 → b < 2 ^ 64 → bitOr a (not64 b) ≡ fromBits 64 (λ i. max (bit a i) (1 - bit b i))
 orn-is = negated bitOr max or-lt bit-or
 
 flip : (x y : ℕ) → x < 2 → y < 2 → (x + (1 - y)) % 2 ≡ 1 - (x + y) % 2
 flip x y hx hy = omega arith
 
-pub xnor-is : (a b : ℕ) → a < 2 ^ 64 → b < 2 ^ 64 → bitXor a (not64 b) ≡ word 64 (λ i. 1 - (bit a i + bit b i) % 2)
+pub xnor-is : (a b : ℕ) → a < 2 ^ 64 → b < 2 ^ 64 → bitXor a (not64 b) ≡ fromBits 64 (λ i. 1 - (bit a i + bit b i) % 2)
 xnor-is a b ha hb =
     negated bitXor (λ x y. (x + y) % 2) xor-lt bit-xor a b ha hb
-    ∙ word-same 64 (λ i. (bit a i + (1 - bit b i)) % 2) (λ i. 1 - (bit a i + bit b i) % 2)
+    ∙ from-bits-same 64 (λ i. (bit a i + (1 - bit b i)) % 2) (λ i. 1 - (bit a i + bit b i) % 2)
     (λ i h. flip (bit a i) (bit b i) (bit-lt a i) (bit-lt b i))
 
 pub sll-is : (a b : ℕ) → shl a (bitAnd b 0x3f) ≡ left 64 a (b % 2 ^ 6)
@@ -75,7 +75,7 @@ sllw-is a b =
     ap (λ (s : ℕ). widen 32 ((asU32 a * 2 ^ s) % 2 ^ 32)) (and-mask b 5)
     ∙ whole-word ((asU32 a * 2 ^ s) % 2 ^ 32) (left 32 a s) (mod-lt (asU32 a * 2 ^ s) (pow-pos 32))
     (shl-bits 32 (asU32 a) s
-    ∙ word-same 32 (λ i. cond (ltb i s) 0 (bit (asU32 a) (i - s))) (λ i. cond (ltb i s) 0 (bit a (i - s)))
+    ∙ from-bits-same 32 (λ i. cond (ltb i s) 0 (bit (asU32 a) (i - s))) (λ i. cond (ltb i s) 0 (bit a (i - s)))
     (λ i h. ap (cond (ltb i s) 0) (bit-mod 32 a (i - s) (omega arith))))
 
 pub srlw-is : (a b : ℕ) → widen 32 (asU32 a / 2 ^ bitAnd b 0x1f) ≡ extended 32 (right 32 a (b % 2 ^ 5))
@@ -85,8 +85,8 @@ srlw-is a b =
     ∙ whole-word (asU32 a / 2 ^ s) (right 32 a s) (lt-of-le-of-lt (shr-le (asU32 a) s) (mod-lt a (pow-pos 32))) (shr-bits 32 a s)
 
 -- a rotation reads the low word alone
-low-word : (a : ℕ) (g : ℕ → ℕ) → word 32 (λ i. bit (asU32 a) (g i % 32)) ≡ word 32 (λ i. bit a (g i % 32))
-low-word a g = word-same 32 (λ i. bit (asU32 a) (g i % 32)) (λ i. bit a (g i % 32)) (λ i h. bit-mod 32 a (g i % 32) (omega arith))
+low-word : (a : ℕ) (g : ℕ → ℕ) → fromBits 32 (λ i. bit (asU32 a) (g i % 32)) ≡ fromBits 32 (λ i. bit a (g i % 32))
+low-word a g = from-bits-same 32 (λ i. bit (asU32 a) (g i % 32)) (λ i. bit a (g i % 32)) (λ i h. bit-mod 32 a (g i % 32) (omega arith))
 
 pub rolw-is : (a b : ℕ) → widen 32 (rotl 32 (asU32 a) (bitAnd b 0x1f)) ≡ extended 32 (turnedLeft 32 a (b % 2 ^ 5))
 rolw-is a b =

@@ -7,7 +7,7 @@ use Prim.Native.Nat.{ℕ, zero, suc, _+_, _-_, _*_, _/_, _%_, _^_, _≤_, _<_}
 use native.Mathlib.Omega.{arith}
 use lib.Dec.{eqb, lit<}
 use lib.Pow.{high, low}
-use Rattle.bits.specs.Bits.{bit, bitsAt, word}
+use Rattle.bits.specs.Bits.{bit, bitsAt, fromBits}
 use Rattle.bits.proofs.Bit.{lt-or-ge, bit-mod, by-bits, bit-shr, bit-not, bit-above}
 use Rattle.alu.specs.Rust.{swapped, spread, orced}
 use Rattle.alu.proofs.Bytes.{byte-lt, swapped-lt, orced-lt}
@@ -38,7 +38,7 @@ swapped-bit x (suc n) i h = by (swapped-bit x n (i - 8)) (lt-or-ge i 8)
         ∙ rest (omega arith)
         ∙ ap (bit x) (omega arith)
 
-pub rev8-is : (a : ℕ) → swapped a 8 ≡ word 64 (λ i. bit a (8 * (7 - i / 8) + i % 8))
+pub rev8-is : (a : ℕ) → swapped a 8 ≡ fromBits 64 (λ i. bit a (8 * (7 - i / 8) + i % 8))
 rev8-is a = by-bits 64 (swapped a 8) (λ i. bit a (8 * (7 - i / 8) + i % 8)) (swapped-lt a 8) (λ i h. swapped-bit a 8 i h)
 
 spread-bit : (byte j : ℕ) → j < 8 → bit (spread byte) j ≡ cond (eqb byte 0) 0 1
@@ -65,5 +65,5 @@ orced-bit x (suc n) i h = by (orced-bit x n i) (lt-or-ge i (n * 8))
         ∙ spread-bit (bitsAt x (n * 8) 8) (i - n * 8) (omega arith)
         ∙ ap (λ (m : ℕ). cond (eqb (bitsAt x m 8) 0) 0 1) e
 
-pub orcb-is : (a : ℕ) → orced a 8 ≡ word 64 (λ i. cond (eqb (bitsAt a (8 * (i / 8)) 8) 0) 0 1)
+pub orcb-is : (a : ℕ) → orced a 8 ≡ fromBits 64 (λ i. cond (eqb (bitsAt a (8 * (i / 8)) 8) 0) 0 1)
 orcb-is a = by-bits 64 (orced a 8) (λ i. cond (eqb (bitsAt a (8 * (i / 8)) 8) 0) 0 1) (orced-lt a 8) (λ i h. orced-bit a 8 i h)

@@ -11,7 +11,7 @@ use lib.IntN.{ℤ, pos, negsuc, _-ℤ_}
 use lib.Signed.{ltZ, shrZ, mag}
 use lib.Pow.{pow-pos, pow-mono, mod-pow-add, mod-mod-pow, split, shr-lt}
 use Rattle.bits.specs.Bits.{bit, signed}
-use Rattle.bits.proofs.Bit.{lt-or-ge, bit-lt, bit-mod, word-lt, word-same}
+use Rattle.bits.proofs.Bit.{lt-or-ge, bit-lt, bit-mod, from-bits-lt, from-bits-same}
 use Rattle.bits.proofs.Sign.{below-zero}
 use Rattle.bits.proofs.Signed.{half, signed-low, signed-high, signed-mag, signed-shr, not-below-zero}
 use Rattle.op.specs.Record.{bits64}
@@ -71,14 +71,14 @@ pub signed-same : (a b : ℕ) → a < 2 ^ 64 → b < 2 ^ 64 → signed 64 a ≡ 
 signed-same a b ha hb e = sym (bits-back a ha) ∙ ap bits64 e ∙ bits-back b hb
 
 pub sra-is : (a s : ℕ) → a < 2 ^ 64 → bits64 (shrZ (signed 64 a) (2 ^ s)) ≡ rightSigned 64 a s
-sra-is a s h = ap bits64 (signed-shr 63 a h s) ∙ bits-back (rightSigned 64 a s) (word-lt 64 (λ i. bit a (min (s + i) 63)) (λ i. bit-lt a (min (s + i) 63)))
+sra-is a s h = ap bits64 (signed-shr 63 a h s) ∙ bits-back (rightSigned 64 a s) (from-bits-lt 64 (λ i. bit a (min (s + i) 63)) (λ i. bit-lt a (min (s + i) 63)))
 
 pub sraw-is : (a s : ℕ) → bits64 (shrZ (signed 32 (asU32 a)) (2 ^ s)) ≡ extended 32 (rightSigned 32 a s)
 sraw-is a s =
     ap bits64 (signed-shr 31 (asU32 a) (mod-lt a (pow-pos 32)) s)
     ∙ word-kind (rightSigned 32 (asU32 a) s) (rightSigned 32 a s)
-    (word-same 32 (λ i. bit (asU32 a) (min (s + i) 31)) (λ i. bit a (min (s + i) 31)) (λ i h. bit-mod 32 a (min (s + i) 31) (omega arith))
-    ∙ sym (mod-eq-of-lt (word-lt 32 (λ i. bit a (min (s + i) 31)) (λ i. bit-lt a (min (s + i) 31)))))
+    (from-bits-same 32 (λ i. bit (asU32 a) (min (s + i) 31)) (λ i. bit a (min (s + i) 31)) (λ i h. bit-mod 32 a (min (s + i) 31) (omega arith))
+    ∙ sym (mod-eq-of-lt (from-bits-lt 32 (λ i. bit a (min (s + i) 31)) (λ i. bit-lt a (min (s + i) 31)))))
 
 pub addw-is : (a b : ℕ) → (asU32 a + asU32 b) % 2 ^ 32 ≡ (a + b) % 2 ^ 64 % 2 ^ 32
 addw-is a b = sym (add-mod a b (2 ^ 32)) ∙ sym (mod-mod-pow (a + b) 32 32)

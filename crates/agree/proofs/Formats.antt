@@ -21,11 +21,11 @@ use Rattle.word.specs.Word as rust-word
 use Rattle.word.specs.declared.Form.{Form}
 use Rattle.word.specs.declared.Form.the-variants.{NoForm, Lui, Auipc, Jal, Jalr, Branch, Load, Store, Imm, Shift6, Shift5, Unary, Reg}
 use Rattle.manual.specs.Words as manual
-use Rattle.manual.specs.Words.{Format, Reserved, LUI, AUIPC, JAL, JALR, B, L, S, I, I6, I5, I0, R}
+use Rattle.manual.specs.Words.{Format, NoRow, LUI, AUIPC, JAL, JALR, B, L, S, I, I6, I5, I0, R}
 
 -- the Rust's forms in the manual's names
 abbrev pub named : Form → Format
-named NoForm = Reserved
+named NoForm = NoRow
 named Lui = LUI
 named Auipc = AUIPC
 named Jal = JAL
@@ -73,7 +73,7 @@ operands w (Reg k) = refl
 
 -- a format is known by two numbers
 abbrev shape : Format → ℕ
-shape Reserved = 0
+shape NoRow = 0
 shape LUI = 1
 shape AUIPC = 2
 shape JAL = 3
@@ -88,7 +88,7 @@ shape (I0 k) = 11
 shape (R k) = 12
 
 abbrev kind : Format → ℕ
-kind Reserved = 0
+kind NoRow = 0
 kind LUI = 0
 kind AUIPC = 0
 kind JAL = 0
@@ -105,14 +105,14 @@ kind (R k) = aluNumber k
 abbrev made : ℕ → ℕ → Format
 made s k =
     case s
-    ((0 ⇒ Reserved) ∷ (1 ⇒ LUI) ∷ (2 ⇒ AUIPC) ∷ (3 ⇒ JAL) ∷ (4 ⇒ JALR)
+    ((0 ⇒ NoRow) ∷ (1 ⇒ LUI) ∷ (2 ⇒ AUIPC) ∷ (3 ⇒ JAL) ∷ (4 ⇒ JALR)
     ∷ (5 ⇒ B (getD branchKinds k Beq)) ∷ (6 ⇒ L (getD loadKinds k Lb)) ∷ (7 ⇒ S (getD storeKinds k Sb))
     ∷ (8 ⇒ I (getD aluKinds k Add)) ∷ (9 ⇒ I6 (getD aluKinds k Add)) ∷ (10 ⇒ I5 (getD aluKinds k Add))
     ∷ (11 ⇒ I0 (getD aluKinds k Add)) ∷ (12 ⇒ R (getD aluKinds k Add)) ∷ [])
-    Reserved
+    NoRow
 
 made-is : (f : Format) → made (shape f) (kind f) ≡ f
-made-is Reserved = refl
+made-is NoRow = refl
 made-is LUI = refl
 made-is AUIPC = refl
 made-is JAL = refl

@@ -6,7 +6,6 @@ use lib.Dec.{ltb, eqb}
 use lib.Bits.{bitAnd, bitOr, bitXor}
 use lib.Count.{ones, leadingZeros, trailingZeros}
 use lib.Signed.{ltZ, shrZ}
-use mir.Val.{boolByte}
 use Rattle.answer.specs.declared.Refusal.the-variants.{NoKind}
 use Rattle.answer.specs.declared.Valued.{Valued}
 use Rattle.answer.specs.declared.Valued.the-variants.{Value, NoValue}
@@ -61,8 +60,8 @@ abbrev pub rustAlu : AluKind → ℕ → ℕ → Valued
 rustAlu Add a b = Value ((a + b) % 2 ^ 64)
 rustAlu Sub a b = Value (minus 64 a b)
 rustAlu Sll a b = Value (shl a (bitAnd b 0x3f))
-rustAlu Slt a b = Value (boolByte (less a b))
-rustAlu Sltu a b = Value (boolByte (ltb a b))
+rustAlu Slt a b = Value (cond (less a b) 1 0)
+rustAlu Sltu a b = Value (cond (ltb a b) 1 0)
 rustAlu Xor a b = Value (bitXor a b)
 rustAlu Srl a b = Value (a / 2 ^ bitAnd b 0x3f)
 rustAlu Sra a b = Value (bits64 (shrZ (signed 64 a) (2 ^ bitAnd b 0x3f)))

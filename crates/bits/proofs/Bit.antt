@@ -11,7 +11,7 @@ use lib.Arith.{lt-one, digits-lt, digits-mod}
 use lib.Dec.{T, ltb, lit<}
 use lib.Pow.{pow-pos, pow-mono, pow-add, split, field, mod-mod-pow, shr-shr, shr-lt, shl-shr}
 use lib.Bits.{bitAnd, bitOr, bitXor, differ, and-step, or-step, xor-step, and-shr, or-shr, xor-shr, shifted-even, and-le-r}
-use Rattle.bits.specs.Bits.{bit, word}
+use Rattle.bits.specs.Bits.{bit, fromBits}
 
 pub lt-or-ge : (a b : ℕ) → (a < b) ⊎ (b ≤ a)
 lt-or-ge a b = by (decLe b a)
@@ -43,8 +43,8 @@ pub bit-top : (n x : ℕ) → x < 2 ^ suc n → bit x n ≡ x / 2 ^ n
 bit-top n x h = mod-eq-of-lt (shr-lt 1 n (subst (λ (m : ℕ). x < 2 ^ m) (sym (one-add n)) h))
 
 -- a number in range with the right bits is the word of them
-pub by-bits : (n x : ℕ) (f : ℕ → ℕ) → x < 2 ^ n → ((i : ℕ) → i < n → bit x i ≡ f i) → x ≡ word n f
-unfolding word
+pub by-bits : (n x : ℕ) (f : ℕ → ℕ) → x < 2 ^ n → ((i : ℕ) → i < n → bit x i ≡ f i) → x ≡ fromBits n f
+unfolding fromBits
 by-bits zero x f h e = lt-one h
 by-bits (suc n) x f h e =
     sym (split x n)
@@ -52,15 +52,15 @@ by-bits (suc n) x f h e =
     (sym (bit-top n x h) ∙ e n (omega arith))
     (by-bits n (x % 2 ^ n) f (mod-lt x (pow-pos n)) (λ i k. bit-mod n x i k ∙ e i (omega arith)))
 
-pub word-same : (n : ℕ) (f g : ℕ → ℕ) → ((i : ℕ) → i < n → f i ≡ g i) → word n f ≡ word n g
-unfolding word
-word-same zero f g e = refl
-word-same (suc n) f g e = ap₂ (λ (p q : ℕ). p * 2 ^ n + q) (e n (omega arith)) (word-same n f g (λ i h. e i (omega arith)))
+pub from-bits-same : (n : ℕ) (f g : ℕ → ℕ) → ((i : ℕ) → i < n → f i ≡ g i) → fromBits n f ≡ fromBits n g
+unfolding fromBits
+from-bits-same zero f g e = refl
+from-bits-same (suc n) f g e = ap₂ (λ (p q : ℕ). p * 2 ^ n + q) (e n (omega arith)) (from-bits-same n f g (λ i h. e i (omega arith)))
 
-pub word-lt : (n : ℕ) (f : ℕ → ℕ) → ((i : ℕ) → f i < 2) → word n f < 2 ^ n
-unfolding word
-word-lt zero f h = lit< tt
-word-lt (suc n) f h = subst (λ (m : ℕ). f n * 2 ^ n + word n f < m) (sym (pow-succ' 2 n)) (digits-lt (h n) (word-lt n f h))
+pub from-bits-lt : (n : ℕ) (f : ℕ → ℕ) → ((i : ℕ) → f i < 2) → fromBits n f < 2 ^ n
+unfolding fromBits
+from-bits-lt zero f h = lit< tt
+from-bits-lt (suc n) f h = subst (λ (m : ℕ). f n * 2 ^ n + fromBits n f < m) (sym (pow-succ' 2 n)) (digits-lt (h n) (from-bits-lt n f h))
 
 pub bit-shr : (x s i : ℕ) → bit (x / 2 ^ s) i ≡ bit x (s + i)
 bit-shr x s i = ap (λ (y : ℕ). y % 2) (shr-shr x s i)

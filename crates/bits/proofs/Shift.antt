@@ -10,8 +10,8 @@ use borrow.Author.Tests.{lt-ltb, le-ltb}
 use lib.Dec.{ltb}
 use lib.Bits.{bitOr, or-shifted, or-lt}
 use lib.Pow.{pow-pos, pow-mono, mod-pow-add, shl-shr, shr-lt, shr-le}
-use Rattle.bits.specs.Bits.{bit, word}
-use Rattle.bits.proofs.Bit.{lt-or-ge, bit-mod, bit-above, by-bits, word-same, bit-shr, bit-shl, bit-shl-low, bit-or}
+use Rattle.bits.specs.Bits.{bit, fromBits}
+use Rattle.bits.proofs.Bit.{lt-or-ge, bit-mod, bit-above, by-bits, from-bits-same, bit-shr, bit-shl, bit-shl-low, bit-or}
 
 -- a test that is known, under `cond`
 pub picked : {A : Type 0} (x n : ℕ) (p q r : A) → (x < n → r ≡ p) → (n ≤ x → r ≡ q) → r ≡ cond (ltb x n) p q
@@ -22,13 +22,13 @@ picked {A} x n p q r f g = by (lt-or-ge x n)
     by (inr k) = g k ∙ sym (ap (λ (t : Bool). cond t p q) (le-ltb x n k))
 
 -- to the left, of any number's n low bits
-pub shl-bits : (n x s : ℕ) → (x * 2 ^ s) % 2 ^ n ≡ word n (λ i. cond (ltb i s) 0 (bit x (i - s)))
+pub shl-bits : (n x s : ℕ) → (x * 2 ^ s) % 2 ^ n ≡ fromBits n (λ i. cond (ltb i s) 0 (bit x (i - s)))
 shl-bits n x s =
     by-bits n ((x * 2 ^ s) % 2 ^ n) (λ i. cond (ltb i s) 0 (bit x (i - s))) (mod-lt (x * 2 ^ s) (pow-pos n))
     (λ i h. bit-mod n (x * 2 ^ s) i h ∙ picked i s 0 (bit x (i - s)) (bit (x * 2 ^ s) i) (bit-shl-low x s i) (bit-shl x s i))
 
 -- to the right, of any number's n low bits
-pub shr-bits : (n x s : ℕ) → x % 2 ^ n / 2 ^ s ≡ word n (λ i. cond (ltb (s + i) n) (bit x (s + i)) 0)
+pub shr-bits : (n x s : ℕ) → x % 2 ^ n / 2 ^ s ≡ fromBits n (λ i. cond (ltb (s + i) n) (bit x (s + i)) 0)
 shr-bits n x s =
     by-bits n (x % 2 ^ n / 2 ^ s) (λ i. cond (ltb (s + i) n) (bit x (s + i)) 0)
     (lt-of-le-of-lt (shr-le (x % 2 ^ n) s) (mod-lt x (pow-pos n)))
@@ -36,7 +36,7 @@ shr-bits n x s =
     ∙ picked (s + i) n (bit x (s + i)) 0 (bit (x % 2 ^ n) (s + i)) (bit-mod n x (s + i)) (bit-above n (x % 2 ^ n) (s + i) (mod-lt x (pow-pos n))))
 
 -- the n low bits among m, with zeros above
-pub low-bits : (m n x : ℕ) → n ≤ m → x % 2 ^ n ≡ word m (λ i. cond (ltb i n) (bit x i) 0)
+pub low-bits : (m n x : ℕ) → n ≤ m → x % 2 ^ n ≡ fromBits m (λ i. cond (ltb i n) (bit x i) 0)
 low-bits m n x hn =
     by-bits m (x % 2 ^ n) (λ i. cond (ltb i n) (bit x i) 0) (lt-of-lt-of-le (mod-lt x (pow-pos n)) (pow-mono hn))
     (λ i h. picked i n (bit x i) 0 (bit (x % 2 ^ n) i) (bit-mod n x i) (bit-above n (x % 2 ^ n) i (mod-lt x (pow-pos n))))
@@ -88,7 +88,7 @@ module _ (n x s : ℕ) (hs : s ≤ n) (hx : x < 2 ^ n) where
           ∙ max-zero (bit x (i - s))
           ∙ ap (bit x) (sym (mod-eq-sub-mod {n = i + (n - s)} {m = n} (omega arith) ∙ mod-eq-of-lt (omega arith) ∙ m))
 
-  pub turned-bits : turned n x s ≡ word n (λ i. bit x ((i + (n - s)) % n))
+  pub turned-bits : turned n x s ≡ fromBits n (λ i. bit x ((i + (n - s)) % n))
   turned-bits = by-bits n (turned n x s) (λ i. bit x ((i + (n - s)) % n)) turned-lt turned-bit
 
   -- by no place, or by all n
@@ -112,8 +112,8 @@ module _ (n x s : ℕ) (hs : s ≤ n) (hx : x < 2 ^ n) where
       by (inr k) = sym (all (omega arith))
 
 -- to the right by s is to the left by the rest
-pub turned-back-bits : (n x s : ℕ) → s ≤ n → x < 2 ^ n → turned n x (n - s) ≡ word n (λ i. bit x ((i + s) % n))
+pub turned-back-bits : (n x s : ℕ) → s ≤ n → x < 2 ^ n → turned n x (n - s) ≡ fromBits n (λ i. bit x ((i + s) % n))
 turned-back-bits n x s hs hx =
     let rest : n - (n - s) ≡ s = omega arith in
     turned-bits n x (n - s) (omega arith) hx
-    ∙ word-same n (λ i. bit x ((i + (n - (n - s))) % n)) (λ i. bit x ((i + s) % n)) (λ i h. ap (λ (m : ℕ). bit x ((i + m) % n)) rest)
+    ∙ from-bits-same n (λ i. bit x ((i + (n - (n - s))) % n)) (λ i. bit x ((i + s) % n)) (λ i h. ap (λ (m : ℕ). bit x ((i + m) % n)) rest)

@@ -14,7 +14,7 @@ use lib.Pow.{shr-le, ones-sub-lt}
 use mir.Syntax.{w64}
 use mir.Val.{SFits, toZ, ofZ, sel}
 use mir.Facts.{toZ-ofZ}
-use Rattle.bits.specs.Bits.{bit, word, signed}
+use Rattle.bits.specs.Bits.{bit, fromBits, signed}
 use Rattle.bits.proofs.Bit.{lt-or-ge, bit-lt, bit-above, bit-top, by-bits, bit-shr, bit-not}
 
 pub half : (n : ℕ) → 2 ^ suc n / 2 ≡ 2 ^ n
@@ -96,15 +96,15 @@ module _ (n x : ℕ) (hx : x < 2 ^ suc n) where
           let b = bit-lt x i in
           omega arith ∙ ap (bit x) (sym (min-eq-left k))
 
-  pub signed-shr : (s : ℕ) → shrZ (signed (suc n) x) (2 ^ s) ≡ signed (suc n) (word (suc n) (λ i. bit x (min (s + i) n)))
+  pub signed-shr : (s : ℕ) → shrZ (signed (suc n) x) (2 ^ s) ≡ signed (suc n) (fromBits (suc n) (λ i. bit x (min (s + i) n)))
   signed-shr s = by (lt-or-ge x (2 ^ n))
     where
-      low : x < 2 ^ n → x / 2 ^ s ≡ word (suc n) (λ i. bit x (min (s + i) n))
+      low : x < 2 ^ n → x / 2 ^ s ≡ fromBits (suc n) (λ i. bit x (min (s + i) n))
       low k =
           by-bits (suc n) (x / 2 ^ s) (λ i. bit x (min (s + i) n)) (lt-of-le-of-lt (shr-le x s) hx)
           (λ i _. bit-shr x s i ∙ clamp-low (s + i) k)
 
-      high : 2 ^ n ≤ x → (2 ^ suc n - 1) - y / 2 ^ s ≡ word (suc n) (λ i. bit x (min (s + i) n))
+      high : 2 ^ n ≤ x → (2 ^ suc n - 1) - y / 2 ^ s ≡ fromBits (suc n) (λ i. bit x (min (s + i) n))
       high k =
           by-bits (suc n) ((2 ^ suc n - 1) - y / 2 ^ s) (λ i. bit x (min (s + i) n)) (ones-sub-lt (suc n) (y / 2 ^ s))
           (λ i j.
@@ -112,7 +112,7 @@ module _ (n x : ℕ) (hx : x < 2 ^ suc n) where
           ∙ ap (λ (d : ℕ). 1 - d) (bit-shr y s i)
           ∙ clamp-high (s + i) k)
 
-      by : (x < 2 ^ n) ⊎ (2 ^ n ≤ x) → shrZ (signed (suc n) x) (2 ^ s) ≡ signed (suc n) (word (suc n) (λ i. bit x (min (s + i) n)))
+      by : (x < 2 ^ n) ⊎ (2 ^ n ≤ x) → shrZ (signed (suc n) x) (2 ^ s) ≡ signed (suc n) (fromBits (suc n) (λ i. bit x (min (s + i) n)))
       by (inl k) =
           ap (λ (z : ℤ). shrZ z (2 ^ s)) (signed-low (suc n) x (omega (arith, half n)))
           ∙ sym (signed-low (suc n) (x / 2 ^ s) (omega (arith, half n, shr-le x s)))

@@ -13,9 +13,9 @@ abbrev pub bit : ℕ → ℕ → ℕ
 bit x i = x / 2 ^ i % 2
 
 -- the number of n bits whose bit i is f i
-unfoldable pub word : ℕ → (ℕ → ℕ) → ℕ
-word zero f = 0
-word (suc n) f = f n * 2 ^ n + word n f
+unfoldable pub fromBits : ℕ → (ℕ → ℕ) → ℕ
+fromBits zero f = 0
+fromBits (suc n) f = f n * 2 ^ n + fromBits n f
 
 -- n bits in two's complement: v, or v - 2 ^ n where the top bit is set; `negsuc k` is -(k + 1)
 abbrev pub signed : ℕ → ℕ → ℤ

@@ -12,26 +12,26 @@ use borrow.Author.Tests.{eqb-true, leb-true}
 use Rattle.block.specs.Memory.{goodMemory, spans, inMemory, restOfPage}
 use Rattle.bits.proofs.Tests.{and-both}
 
-pub record Geometry (size base : ℕ) : Type 0 where
-  pub whole : size % 4096 ≡ 0
+pub record GoodMemory (len base : ℕ) : Type 0 where
+  pub whole : len % 4096 ≡ 0
   pub based : base % 4096 ≡ 0
-  pub least : 4096 ≤ size
-  pub most : size ≤ 65536 * 4096
-  pub top : base + size ≤ 2 ^ 56
+  pub least : 4096 ≤ len
+  pub most : len ≤ 65536 * 4096
+  pub top : base + len ≤ 2 ^ 56
 
-pub geometry : {size base : ℕ} → goodMemory size base ≡ true → Geometry size base
-geometry e =
+pub good-memory : {len base : ℕ} → goodMemory len base ≡ true → GoodMemory len base
+good-memory e =
     let a = and-both _ _ e in
     let b = and-both _ _ (a .0) in
     let c = and-both _ _ (b .0) in
     let d = and-both _ _ (c .0) in
     record { whole = eqb-true _ _ (d .0); based = eqb-true _ _ (d .1); least = leb-true _ _ (c .1); most = leb-true _ _ (b .1); top = leb-true _ _ (a .1) }
 
-pub spanned : (size base address n : ℕ) → spans size base address n ≡ true → (base ≤ address) × (address + n ≤ base + size)
-spanned size base address n e = let a = and-both (leb base address) _ e in (leb-true _ _ (a .0), leb-true _ _ (a .1))
+pub spanned : (len base address n : ℕ) → spans len base address n ≡ true → (base ≤ address) × (address + n ≤ base + len)
+spanned len base address n e = let a = and-both (leb base address) _ e in (leb-true _ _ (a .0), leb-true _ _ (a .1))
 
-pub held : (size base address : ℕ) → inMemory size base address ≡ true → (base ≤ address) × (address < base + size)
-held size base address e = let h = spanned size base address 1 e in (h .0, omega arith)
+pub held : (len base address : ℕ) → inMemory len base address ≡ true → (base ≤ address) × (address < base + len)
+held len base address e = let h = spanned len base address 1 e in (h .0, omega arith)
 
 -- a part of the page that starts at the address, as the code lends it
 pub rest-is : (memory : List ℕ) (base address : ℕ) → base % 4096 ≡ 0 → base ≤ address → address - base ≤ length memory

@@ -1,23 +1,40 @@
 -- The record of ops that are well formed where they stand is well formed.
 -- Assumes nothing.
-use mathlib.Core.Path.{_≡_, refl, ap, _∙_}
+use mathlib.Core.Path.{_≡_, refl, sym, ap, ap₂, _∙_}
 use mathlib.Core.Bool.{true, _||_, not}
 use mathlib.Core.List.{List, [], _∷_, _++_}
-use Prim.Native.Nat.{ℕ, suc, _+_, _-_, _*_, _%_, _^_, _≤_, _<_}
+use Prim.Native.Nat.{ℕ, suc, _+_, _-_, _*_, _/_, _%_, _^_, _≤_, _<_}
 use native.Mathlib.Omega.{arith}
 use native.Mathlib.Nat.{mod-eq-of-lt}
 use lib.Dec.{eqb}
 use lib.ListN.{length, replicate, length-append, length-replicate}
 use borrow.Author.Tests.{eq-eqb}
-use Rattle.bits.specs.Bytes.{le, halfwordAt}
-use Rattle.bits.proofs.Bytes.{halfword-le, doubleword-le}
+use Rattle.bits.specs.Bytes.{le, patch, halfwordAt}
+use Rattle.bits.proofs.Bytes.{length-le, halfword-le, doubleword-le, patch-append, le-cons}
 use Rattle.op.specs.Record.{opFields, opRecord}
 use Rattle.op.specs.WellFormed.{opWellFormed}
 use Rattle.op.specs.declared.Op.{Op}
 use Rattle.op.proofs.Record.{length-record}
-use Rattle.block.specs.Record.{Insn, insn, opRecords, byteLen, blockRecord}
+use Rattle.block.specs.Record.{Insn, insn, opRecords, byteLen, headBytes, blockRecord}
 use Rattle.block.specs.WellFormed.{jumps, placed, opsWellFormed, wellFormed}
 use Rattle.block.proofs.Head.{Head, decides}
+
+-- count and byte_len, with four zeros, as one number
+counts-le : (count len : ℕ) → count < 2 ^ 16 → len < 2 ^ 16 → le 8 (count + 65536 * len) ≡ le 2 count ++ (le 2 len ++ le 4 0)
+unfolding le
+counts-le count len hc hl =
+    let sum : count + 65536 * len ≡ count % 256 + 256 * (count / 256 % 256 + 256 * (len % 256 + 256 * (len / 256 % 256 + 256 * 0))) = omega arith in
+    ap (le 8) sum
+    ∙ le-cons 7 (count % 256) _ (omega arith)
+    (le-cons 6 (count / 256 % 256) _ (omega arith) (le-cons 5 (len % 256) _ (omega arith) (le-cons 4 (len / 256 % 256) 0 (omega arith) refl)))
+
+-- a header is written as two numbers
+pub head-put : (s : List ℕ) (address count len : ℕ) → count < 2 ^ 16 → len < 2 ^ 16 → 16 ≤ length s
+    → patch (patch s 0 (le 8 address)) 8 (le 8 (count + 65536 * len)) ≡ patch s 0 (headBytes address count len)
+head-put s address count len hc hl long =
+    let at : 8 ≡ 0 + length (le 8 address) = omega (arith, length-le 8 address) in
+    ap₂ (patch (patch s 0 (le 8 address))) at (counts-le count len hc hl)
+    ∙ sym (patch-append s 0 (le 8 address) (le 2 count ++ (le 2 len ++ le 4 0)) (rw length-le (omega arith)))
 
 pub length-op-records : (at : ℕ) (ops : List Insn) → length (opRecords at ops) ≡ 16 * length ops
 unfolding opRecords

@@ -8,18 +8,18 @@ use lib.ListN.{take, drop}
 
 -- 1 to 65,536 whole pages from a page's start, up to 2^56
 abbrev pub goodMemory : ℕ → ℕ → Bool
-goodMemory size base = eqb (size % 4096) 0 && eqb (base % 4096) 0 && leb 4096 size && leb size (65536 * 4096) && leb (base + size) (2 ^ 56)
+goodMemory len base = eqb (len % 4096) 0 && eqb (base % 4096) 0 && leb 4096 len && leb len (65536 * 4096) && leb (base + len) (2 ^ 56)
 
 -- the n bytes from an address on lie in memory; and the address alone
 abbrev pub spans : ℕ → ℕ → ℕ → ℕ → Bool
-spans size base address n = leb base address && leb (address + n) (base + size)
+spans len base address n = leb base address && leb (address + n) (base + len)
 
 abbrev pub inMemory : ℕ → ℕ → ℕ → Bool
-inMemory size base address = spans size base address 1
+inMemory len base address = spans len base address 1
 
 -- the bytes of an address's page, and those of them from the address on
-abbrev pub page : List ℕ → ℕ → ℕ → List ℕ
-page memory base address = take 4096 (drop ((address - base) / 4096 * 4096) memory)
+abbrev pub pageBytes : List ℕ → ℕ → ℕ → List ℕ
+pageBytes memory base address = take 4096 (drop ((address - base) / 4096 * 4096) memory)
 
 abbrev pub restOfPage : List ℕ → ℕ → ℕ → List ℕ
-restOfPage memory base address = drop (address % 4096) (page memory base address)
+restOfPage memory base address = drop (address % 4096) (pageBytes memory base address)

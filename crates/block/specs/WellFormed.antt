@@ -6,6 +6,7 @@ use mathlib.Core.List.{List, [], _∷_}
 use lib.Dec.{eqb, leb}
 use lib.ListN.{length, getD, take, drop}
 use Rattle.bits.specs.Bytes.{halfwordAt, wordAt, doublewordAt}
+use Rattle.op.specs.Record.{jalNumber, jalrNumber}
 use Rattle.op.specs.WellFormed.{opWellFormed}
 
 unfoldable pub allZero : List ℕ → Bool
@@ -14,7 +15,7 @@ allZero (b ∷ s) = eqb b 0 && allZero s
 
 -- Jal and Jalr
 abbrev pub jumps : ℕ → Bool
-jumps op = eqb op 7 || eqb op 8
+jumps op = eqb op jalNumber || eqb op jalrNumber
 
 -- an op record in its place: at pc_off `at`, with `left` ops behind it
 unfoldable pub placed : List ℕ → ℕ → ℕ → Bool

@@ -2,6 +2,7 @@
 ghost use mathlib.Core.Path.{_≡_};
 ghost use Prim.Native.Nat.{_≤_};
 ghost use lib.ListN.{length, drop};
+ghost use Rattle.bits.specs.Bytes.{patch};
 ghost use Rattle.block.specs.Memory.{goodMemory, spans, inMemory};
 ghost use Rattle.block.specs.Record.{headBytes};
 ghost use Rattle.block.specs.WellFormed.{allZero, jumps, placed, opsWellFormed, wellFormed};
@@ -41,66 +42,51 @@ impl Slot {
 }
 
 // Whether a memory of that length may stand at that base.
-pub fn good_memory(size: u64, base: u64) -> bool
-    ensures { λ r. ⌜ r ≡ goodMemory size base ⌝ }
+pub fn good_memory(len: u64, base: u64) -> bool
+    ensures { λ r. ⌜ r ≡ goodMemory len base ⌝ }
 {
-    if size % PAGE != 0 {
+    if len % PAGE != 0 {
         return false;
     }
     if base % PAGE != 0 {
         return false;
     }
-    if size < PAGE {
+    if len < PAGE {
         return false;
     }
-    if MAX_PAGES * PAGE < size {
+    if MAX_PAGES * PAGE < len {
         return false;
     }
-    base <= TOP - size
+    base <= TOP - len
 }
 
 // Whether the n bytes from an address on lie in memory; no sum here can wrap.
-pub fn spans(size: u64, base: u64, address: u64, n: u64) -> bool
-    ensures { λ r. ⌜ r ≡ spans size base address n ⌝ }
+pub fn spans(len: u64, base: u64, address: u64, n: u64) -> bool
+    ensures { λ r. ⌜ r ≡ spans len base address n ⌝ }
 {
     if address < base {
         return false;
     }
-    if size < n {
+    if len < n {
         return false;
     }
-    address - base <= size - n
+    address - base <= len - n
 }
 
 // Whether an address lies in memory.
-pub fn in_memory(size: u64, base: u64, address: u64) -> bool
-    ensures { λ r. ⌜ r ≡ inMemory size base address ⌝ }
+pub fn in_memory(len: u64, base: u64, address: u64) -> bool
+    ensures { λ r. ⌜ r ≡ inMemory len base address ⌝ }
 {
-    spans(size, base, address, 1)
+    spans(len, base, address, 1)
 }
 
 // The sixteen bytes before a block's ops.
-pub fn head_bytes(address: u64, count: u16, byte_len: u16) -> [u8; 16]
-    ensures { λ r. ⌜ r ≡ headBytes address count «byte_len» ⌝ }
+pub fn put_head(record: &mut [u8], address: u64, count: u16, len: u16)
+    requires { ⌜ 16 ≤ length (now «record») ⌝ }
+    ensures { λ _. ⌜ now («record» .exit) ≡ patch (now («record» .entry)) 0 (headBytes address count len) ⌝ }
 {
-    [
-        (address % 256) as u8,
-        (address / 0x100 % 256) as u8,
-        (address / 0x1_0000 % 256) as u8,
-        (address / 0x100_0000 % 256) as u8,
-        (address / 0x1_0000_0000 % 256) as u8,
-        (address / 0x100_0000_0000 % 256) as u8,
-        (address / 0x1_0000_0000_0000 % 256) as u8,
-        (address / 0x100_0000_0000_0000 % 256) as u8,
-        (count % 256) as u8,
-        (count / 0x100 % 256) as u8,
-        (byte_len % 256) as u8,
-        (byte_len / 0x100 % 256) as u8,
-        0,
-        0,
-        0,
-        0,
-    ]
+    bits::put_doubleword(record, 0, address);
+    bits::put_doubleword(record, 8, count as u64 + 0x1_0000 * (len as u64));
 }
 
 // Without an early return, which would hold the compiler to a byte at a time.
@@ -119,10 +105,10 @@ fn all_zero(s: &[u8]) -> bool
 pub fn jumps(op: u8) -> bool
     ensures { λ r. ⌜ r ≡ jumps op ⌝ }
 {
-    if op == 7 {
+    if op == OpRecord::JAL {
         return true;
     }
-    op == 8
+    op == OpRecord::JALR
 }
 
 // Whether an op record is well formed where it stands: its offset, and how many ops come behind it.

@@ -12,12 +12,12 @@ use borrow.Author.Tests.{eqb-true}
 use Rattle.bits.specs.Bytes.{doublewordAt, patch}
 use Rattle.bits.proofs.Bytes.{length-le}
 use Rattle.block.specs.WellFormed.{wellFormed}
-use Rattle.store.specs.Layout.{header, inBounds, storeSize, geometry, opened, Fitting, holds, slotOf}
+use Rattle.store.specs.Layout.{header, inBounds, storeLen, geometry, opened, Fitting, holds, slotOf}
 use Rattle.store.specs.declared.Geometry.{Geometry}
 use Rattle.store.specs.declared.Opened.{Opened}
 use Rattle.store.specs.declared.Opened.the-variants.{Sound, NotAStore}
 use Rattle.store.proofs.Known.{bounds-are, opened-says, place-fits, slot-lt}
-use Rattle.cache.specs.Calls.{makeJudged, placeOf, found, lookupCall, insertJudged}
+use Rattle.cache.specs.Calls.{makeJudged, placeOf, lookupBy, lookupCall, insertJudged}
 use Rattle.answer.specs.declared.Refusal.{Refusal}
 use Rattle.answer.specs.declared.Refusal.the-variants.{NoStore, BadGeometry, OutsideMemory, IllFormed, WrongBuffer, NothingFound}
 use Rattle.cache.specs.declared.LookupAnswer.the-variants.{Hit, LookupRefused}
@@ -29,12 +29,12 @@ rejected q = let z : _≡_ {A = ℕ} 0 1 = cc in omega arith
 
 module _ (e base pages : ℕ) (s : List ℕ) (g : Geometry) where
   pub make-fits : makeJudged e base pages (length s) ≡ Accepted g → Fitting g s
-  make-fits h = go (inBounds e base pages) refl (eqb (length s) (storeSize (geometry e base pages))) refl h
+  make-fits h = go (inBounds e base pages) refl (eqb (length s) (storeLen (geometry e base pages))) refl h
     where
-      go : (x : Bool) → inBounds e base pages ≡ x → (y : Bool) → eqb (length s) (storeSize (geometry e base pages)) ≡ y → cond x (cond y (Accepted (geometry e base pages)) (Rejected NoStore)) (Rejected BadGeometry) ≡ Accepted g → Fitting g s
+      go : (x : Bool) → inBounds e base pages ≡ x → (y : Bool) → eqb (length s) (storeLen (geometry e base pages)) ≡ y → cond x (cond y (Accepted (geometry e base pages)) (Rejected NoStore)) (Rejected BadGeometry) ≡ Accepted g → Fitting g s
       go true ex true ey k =
           let q : geometry e base pages ≡ g = cc in
-          subst (λ (z : Geometry). Fitting z s) q (record { bounds = bounds-are e base pages ex; size = eqb-true _ _ ey })
+          subst (λ (z : Geometry). Fitting z s) q (record { bounds = bounds-are e base pages ex; exact = eqb-true _ _ ey })
       go true ex false ey k = absurd (rejected k)
       go false ex y ey k = absurd (rejected k)
 
@@ -42,7 +42,7 @@ pub opened-fits : (s : List ℕ) (g : Geometry) → opened s ≡ Sound g → Fit
 opened-fits s g h = opened-says s g h .fitting
 
 -- the place of an address's slot lies within the store
-pub slot-fits : (g : Geometry) (s : List ℕ) (a : ℕ) → Fitting g s → placeOf g a + g .size ≤ length s
+pub slot-fits : (g : Geometry) (s : List ℕ) (a : ℕ) → Fitting g s → placeOf g a + g .stride ≤ length s
 slot-fits g s a f = place-fits g s (slotOf g a) f (slot-lt g a)
 
 -- an insertion that is accepted
@@ -74,14 +74,14 @@ module _ (s : List ℕ) (a at n : ℕ) where
   pub hit-fits : lookupCall s a ≡ Hit at n → at + n ≤ length s
   hit-fits h = go (opened s) refl h
     where
-      tests : (g : Geometry) → opened s ≡ Sound g → (b : Bool) → cond b (Hit (placeOf g a) (g .size)) (LookupRefused NothingFound) ≡ Hit at n → at + n ≤ length s
+      tests : (g : Geometry) → opened s ≡ Sound g → (b : Bool) → cond b (Hit (placeOf g a) (g .stride)) (LookupRefused NothingFound) ≡ Hit at n → at + n ≤ length s
       tests g e true q =
           let p : placeOf g a ≡ at = cc in
-          let z : g .size ≡ n = cc in
+          let z : g .stride ≡ n = cc in
           rw (p, z) at (slot-fits g s a (opened-fits s g e))
       tests g e false q = absurd (let z : _≡_ {A = ℕ} 0 1 = cc in omega arith)
 
-      go : (o : Opened) → opened s ≡ o → found o s a ≡ Hit at n → at + n ≤ length s
+      go : (o : Opened) → opened s ≡ o → lookupBy o s a ≡ Hit at n → at + n ≤ length s
       go (Sound g) e q = tests g e (holds g a && eqb (doublewordAt s (placeOf g a)) a) q
       go NotAStore e q = absurd (let z : _≡_ {A = ℕ} 0 1 = cc in omega arith)
 

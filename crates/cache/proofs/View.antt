@@ -7,7 +7,7 @@ use Prim.Native.Nat.{ℕ, _+_, _/_, _%_, _^_, _<_}
 use native.Mathlib.Omega.{arith}
 use lib.Dec.{eqb}
 use lib.ListN.{length}
-use Rattle.store.specs.Layout.{opened, Fitting, holds, pageOf, slotOf, generationOf, bumped}
+use Rattle.store.specs.Layout.{opened, Fitting, holds, memoryPage, slotOf, generationOf, bumped}
 use Rattle.store.specs.Places.{placeIn, pageBit, withBit, placeFor, emptied}
 use Rattle.store.specs.declared.Geometry.{Geometry}
 use Rattle.store.proofs.Known.{page-lt, slot-lt}
@@ -16,20 +16,20 @@ use Rattle.store.proofs.View.{length-with, opened-with, generation-with, bits-w
 use Rattle.cache.specs.Calls.{insertedIn, evicted}
 
 -- emptying keeps a place's length
-keeps : (g : Geometry) (s : List ℕ) → Fitting g s → (w : ℕ) (p : List ℕ) → length p ≡ g .size → length (emptied w p) ≡ g .size
+keeps : (g : Geometry) (s : List ℕ) → Fitting g s → (w : ℕ) (p : List ℕ) → length p ≡ g .stride → length (emptied w p) ≡ g .stride
 keeps g s f w p l = length-emptied w p (omega (arith, f .bounds .room)) ∙ l
 
 module _ (g : Geometry) (s : List ℕ) (f : Fitting g s) (a : ℕ) (h : holds g a ≡ true) where
-  in-memory : pageOf g a < g .pages
+  in-memory : memoryPage g a < g .pages
   in-memory = page-lt g a h
 
   -- the page's bit is off, and the places on the page are empty
   cleared : List ℕ
-  cleared = withBit s (pageOf g a) false
+  cleared = withBit s (memoryPage g a) false
 
   cleared-fits : Fitting g cleared
   unfolding cleared
-  cleared-fits = record { bounds = f .bounds; size = length-with g s f (pageOf g a) false in-memory ∙ f .size }
+  cleared-fits = record { bounds = f .bounds; exact = length-with g s f (memoryPage g a) false in-memory ∙ f .exact }
 
   here : ℕ
   here = a / 4096
@@ -40,54 +40,54 @@ module _ (g : Geometry) (s : List ℕ) (f : Fitting g s) (a : ℕ) (h : holds g 
 
   pub opened-evicted : opened (evicted g s a) ≡ opened s
   unfolding evicted cleared here
-  opened-evicted = opened-each g cleared cleared-fits (emptied here) (keeps g s f here) ∙ opened-with g s f (pageOf g a) false in-memory
+  opened-evicted = opened-each g cleared cleared-fits (emptied here) (keeps g s f here) ∙ opened-with g s f (memoryPage g a) false in-memory
 
   pub generation-evicted : generationOf (evicted g s a) ≡ generationOf s
   unfolding evicted cleared here
-  generation-evicted = generation-each g cleared cleared-fits (emptied here) (keeps g s f here) ∙ generation-with g s f (pageOf g a) false in-memory
+  generation-evicted = generation-each g cleared cleared-fits (emptied here) (keeps g s f here) ∙ generation-with g s f (memoryPage g a) false in-memory
 
-  pub bits-evicted : (q : ℕ) → q < g .pages → pageBit (evicted g s a) q ≡ cond (eqb (pageOf g a) q) false (pageBit s q)
+  pub bits-evicted : (q : ℕ) → q < g .pages → pageBit (evicted g s a) q ≡ cond (eqb (memoryPage g a) q) false (pageBit s q)
   unfolding evicted cleared here
-  bits-evicted q b = bits-each g cleared cleared-fits (emptied here) (keeps g s f here) q b ∙ bits-with g s f (pageOf g a) false in-memory q
+  bits-evicted q b = bits-each g cleared cleared-fits (emptied here) (keeps g s f here) q b ∙ bits-with g s f (memoryPage g a) false in-memory q
 
   pub place-evicted : (i : ℕ) → i < 2 ^ g .e → placeIn g (evicted g s a) i ≡ emptied (a / 4096) (placeIn g s i)
   unfolding evicted cleared here
-  place-evicted i b = place-each g cleared cleared-fits (emptied here) (keeps g s f here) i b ∙ ap (emptied here) (place-with g s f (pageOf g a) false in-memory i)
+  place-evicted i b = place-each g cleared cleared-fits (emptied here) (keeps g s f here) i b ∙ ap (emptied here) (place-with g s f (memoryPage g a) false in-memory i)
 
   -- the page's bit is on, the generation one up, and the slot's place holds the record
-  module _ (rec : List ℕ) (l : length (placeFor g rec) ≡ g .size) where
+  module _ (rec : List ℕ) (l : length (placeFor g rec) ≡ g .stride) where
     marked : List ℕ
-    marked = withBit s (pageOf g a) true
+    marked = withBit s (memoryPage g a) true
 
     marked-fits : Fitting g marked
     unfolding marked
-    marked-fits = record { bounds = f .bounds; size = length-with g s f (pageOf g a) true in-memory ∙ f .size }
+    marked-fits = record { bounds = f .bounds; exact = length-with g s f (memoryPage g a) true in-memory ∙ f .exact }
 
     moved-fits : Fitting g (bumped marked)
-    moved-fits = record { bounds = f .bounds; size = length-bumped g marked marked-fits ∙ marked-fits .size }
+    moved-fits = record { bounds = f .bounds; exact = length-bumped g marked marked-fits ∙ marked-fits .exact }
 
     pub fitting-inserted : Fitting g (insertedIn g s a rec)
     unfolding insertedIn marked
-    fitting-inserted = record { bounds = f .bounds; size = length-put g (bumped marked) moved-fits (slotOf g a) (placeFor g rec) (slot-lt g a) l ∙ moved-fits .size }
+    fitting-inserted = record { bounds = f .bounds; exact = length-put g (bumped marked) moved-fits (slotOf g a) (placeFor g rec) (slot-lt g a) l ∙ moved-fits .exact }
 
     pub opened-inserted : opened (insertedIn g s a rec) ≡ opened s
     unfolding insertedIn marked
-    opened-inserted = opened-put g (bumped marked) moved-fits (slotOf g a) (placeFor g rec) (slot-lt g a) l ∙ opened-bumped g marked marked-fits ∙ opened-with g s f (pageOf g a) true in-memory
+    opened-inserted = opened-put g (bumped marked) moved-fits (slotOf g a) (placeFor g rec) (slot-lt g a) l ∙ opened-bumped g marked marked-fits ∙ opened-with g s f (memoryPage g a) true in-memory
 
     pub generation-inserted : generationOf (insertedIn g s a rec) ≡ (generationOf s + 1) % 2 ^ 64
     unfolding insertedIn marked
     generation-inserted =
         generation-put g (bumped marked) moved-fits (slotOf g a) (placeFor g rec) (slot-lt g a) l
         ∙ generation-bumped g marked marked-fits
-        ∙ ap (λ (n : ℕ). (n + 1) % 2 ^ 64) (generation-with g s f (pageOf g a) true in-memory)
+        ∙ ap (λ (n : ℕ). (n + 1) % 2 ^ 64) (generation-with g s f (memoryPage g a) true in-memory)
 
-    pub bits-inserted : (q : ℕ) → q < g .pages → pageBit (insertedIn g s a rec) q ≡ cond (eqb (pageOf g a) q) true (pageBit s q)
+    pub bits-inserted : (q : ℕ) → q < g .pages → pageBit (insertedIn g s a rec) q ≡ cond (eqb (memoryPage g a) q) true (pageBit s q)
     unfolding insertedIn marked
     bits-inserted q b =
-        bits-put g (bumped marked) moved-fits (slotOf g a) (placeFor g rec) (slot-lt g a) l q b ∙ bits-bumped g marked marked-fits q ∙ bits-with g s f (pageOf g a) true in-memory q
+        bits-put g (bumped marked) moved-fits (slotOf g a) (placeFor g rec) (slot-lt g a) l q b ∙ bits-bumped g marked marked-fits q ∙ bits-with g s f (memoryPage g a) true in-memory q
 
     pub place-inserted : (i : ℕ) → placeIn g (insertedIn g s a rec) i ≡ cond (eqb (slotOf g a) i) (placeFor g rec) (placeIn g s i)
     unfolding insertedIn marked
     place-inserted i =
         place-put g (bumped marked) moved-fits (slotOf g a) (placeFor g rec) (slot-lt g a) l i
-        ∙ ap (cond (eqb (slotOf g a) i) (placeFor g rec)) (place-bumped g marked marked-fits i ∙ place-with g s f (pageOf g a) true in-memory i)
+        ∙ ap (cond (eqb (slotOf g a) i) (placeFor g rec)) (place-bumped g marked marked-fits i ∙ place-with g s f (memoryPage g a) true in-memory i)

@@ -6,8 +6,8 @@ ghost use Prim.Native.Nat.{_+_, _<_, _^_};
 ghost use lib.ListN.{length};
 ghost use Rattle.store.specs.Layout.{header, opened, Fitting, holds};
 ghost use Rattle.store.specs.Places.{placeFor, blank};
-ghost use Rattle.cache.specs.Answers.{lookupNumber, lookupValue, reportNumber, reportValue};
-ghost use Rattle.cache.specs.Calls.{makeJudged, makeCall, lookupCall, shown, insertJudged, insertedIn, insertCall, summed, watched, evicted, noticedIn, noticeCall, flushCall, generationCall};
+ghost use Rattle.cache.specs.Answers.{lookupNumber, lookupValue, lookupPart, reportNumber, reportValue};
+ghost use Rattle.cache.specs.Calls.{makeJudged, makeCall, lookupCall, insertJudged, insertedIn, insertCall, summed, watched, evicted, noticedIn, noticeCall, flushCall, generationCall};
 use answer::Answer;
 use answer::Refusal;
 use answer::Valued;
@@ -28,7 +28,7 @@ pub struct Report {
 }
 
 pub enum LookupAnswer {
-    Hit { at: usize, size: usize },
+    Hit { at: usize, len: usize },
     LookupRefused(Refusal),
 }
 
@@ -43,7 +43,7 @@ impl LookupAnswer {
         ensures { λ r. ⌜ r ≡ lookupNumber self ⌝ }
     {
         match self {
-            Self::Hit { at: _, size: _ } => 0,
+            Self::Hit { at: _, len: _ } => 0,
             Self::LookupRefused(why) => why.number(),
         }
     }
@@ -53,7 +53,7 @@ impl LookupAnswer {
         ensures { λ r. ⌜ r ≡ lookupValue self ⌝ }
     {
         match self {
-            Self::Hit { at, size: _ } => at as u64,
+            Self::Hit { at, len: _ } => at as u64,
             Self::LookupRefused(_) => 0,
         }
     }
@@ -80,12 +80,12 @@ impl ReportAnswer {
     }
 }
 
-fn judge_make(e: u64, base: u64, pages: u64, size: usize) -> Judged
-    ensures { λ r. ⌜ r ≡ makeJudged e base pages size ⌝ }
+fn judge_make(e: u64, base: u64, pages: u64, len: usize) -> Judged
+    ensures { λ r. ⌜ r ≡ makeJudged e base pages len ⌝ }
 {
     if store::in_bounds(e, base, pages) {
         let g = Geometry::new(e, base, pages);
-        if size == g.store_size() {
+        if len == g.store_len() {
             Judged::Accepted(g)
         } else {
             Judged::Rejected(Refusal::NoStore)
@@ -126,7 +126,7 @@ pub fn find(store: &[u8], address: u64) -> LookupAnswer
     if g.holds(address) {
         let at = g.place(address);
         if bits::doubleword_at(store, at) == address {
-            LookupAnswer::Hit { at, size: g.size }
+            LookupAnswer::Hit { at, len: g.stride }
         } else {
             LookupAnswer::LookupRefused(Refusal::NothingFound)
         }
@@ -137,10 +137,10 @@ pub fn find(store: &[u8], address: u64) -> LookupAnswer
 
 // The place of the block at the address, as a part of the store, or an empty part.
 pub fn lookup(store: &[u8], address: u64) -> &[u8]
-    ensures { λ r. ⌜ now r ≡ shown (now (store .entry)) (lookupCall (now (store .entry)) address) ⌝ }
+    ensures { λ r. ⌜ now r ≡ lookupPart (now (store .entry)) (lookupCall (now (store .entry)) address) ⌝ }
 {
     match find(store, address) {
-        LookupAnswer::Hit { at, size } => &store[at..at + size],
+        LookupAnswer::Hit { at, len } => &store[at..at + len],
         LookupAnswer::LookupRefused(_) => &store[..0],
     }
 }
@@ -163,7 +163,7 @@ pub fn generation(store: &[u8]) -> Valued
     ensures { λ r. ⌜ r ≡ generationCall (now (store .entry)) ⌝ }
 {
     match store::open(store) {
-        Opened::Sound(_) => Valued::Value(bits::doubleword_at(store, 24)),
+        Opened::Sound(_) => Valued::Value(store::generation(store)),
         Opened::NotAStore => Valued::NoValue(Refusal::NoStore),
     }
 }
@@ -173,7 +173,7 @@ fn watched(store: &[u8], g: Geometry, address: u64) -> bool
     ensures { λ r. ⌜ r ≡ watched g (now (store .entry)) address ⌝ }
 {
     if g.holds(address) {
-        store::page_bit(store, g.page(address))
+        store::page_bit(store, g.memory_page(address))
     } else {
         false
     }
@@ -183,8 +183,8 @@ fn evict(store: &mut [u8], g: Geometry, address: u64)
     requires { ⌜ Fitting g (now store) × (holds g address ≡ true) ⌝ }
     ensures { λ _. ⌜ now (store .exit) ≡ evicted g (now (store .entry)) address ⌝ }
 {
-    store::set_bit(store, g.page(address), false);
-    store::empty_places(store, g.front(), g.size, g.slots(), address / PAGE);
+    store::set_bit(store, g.memory_page(address), false);
+    store::empty_places(store, g.front(), g.stride, g.slots(), address / PAGE);
 }
 
 // A notice in a store whose header was checked.
@@ -251,14 +251,14 @@ fn write_record(place: &mut [u8], record: &[u8])
 }
 
 fn insert_in(store: &mut [u8], g: Geometry, address: u64, record: &[u8])
-    requires { ⌜ Fitting g (now store) × ((holds g address ≡ true) × (length (placeFor g (now «record»)) ≡ g .size)) ⌝ }
+    requires { ⌜ Fitting g (now store) × ((holds g address ≡ true) × (length (placeFor g (now «record»)) ≡ g .stride)) ⌝ }
     ensures { λ _. ⌜ now (store .exit) ≡ insertedIn g (now (store .entry)) address (now («record» .entry)) ⌝ }
 {
     let at = g.place(address);
-    let size = g.size;
-    store::set_bit(store, g.page(address), true);
+    let stride = g.stride;
+    store::set_bit(store, g.memory_page(address), true);
     store::bump(store);
-    write_record(&mut store[at..at + size], record);
+    write_record(&mut store[at..at + stride], record);
 }
 
 // The record into the place of its slot.

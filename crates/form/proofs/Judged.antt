@@ -18,14 +18,14 @@ use Rattle.block.specs.Record.{Insn, blockRecord}
 use Rattle.form.specs.Forming.{formed}
 use Rattle.form.specs.Call.{formJudged, formedInto, formCall}
 
-pub record Begun (size room base address : ℕ) : Type 0 where
-  pub good : goodMemory size base ≡ true
+pub record Begun (len room base address : ℕ) : Type 0 where
+  pub good : goodMemory len base ≡ true
   pub whole : room ≡ 1040
-  pub inner : inMemory size base address ≡ true
+  pub inner : inMemory len base address ≡ true
 
-pub begun : (size room base address : ℕ) → formJudged size room base address ≡ Done → Begun size room base address
-begun size room base address e =
-    let f = by (goodMemory size base) (eqb room 1040) (inMemory size base address) e in
+pub begun : (len room base address : ℕ) → formJudged len room base address ≡ Done → Begun len room base address
+begun len room base address e =
+    let f = by (goodMemory len base) (eqb room 1040) (inMemory len base address) e in
     record { good = f .0; whole = eqb-true room 1040 (f .1); inner = f .2 }
   where
     by : (a b c : Bool) → cond (not a) (Refused BadGeometry) (cond (not b) (Refused WrongBuffer) (cond (not c) (Refused OutsideMemory) Done)) ≡ Done → (a ≡ true) × (b ≡ true) × (c ≡ true)

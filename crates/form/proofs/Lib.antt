@@ -4,5 +4,5 @@ pub mod Kept
 pub mod Loop
 pub mod Page
 pub mod Seal
-pub mod Sound
+pub mod FormedWell
 pub mod Taken

@@ -9,7 +9,7 @@ use lib.Seq.{length-take-le, take-at, drop-at}
 use borrow.Rule.Slice.PartMut.{midOf, mid-len, putMid}
 use Rattle.answer.specs.declared.Refusal.the-variants.{NoOp}
 use Rattle.answer.specs.declared.Answer.the-variants.{Done, Refused}
-use Rattle.bits.specs.Bytes.{patch}
+use Rattle.bits.specs.Bytes.{le, patch}
 use Rattle.bits.proofs.Bytes.{length-patch, patch-nothing}
 use Rattle.block.specs.Record.{Insn, headBytes, opRecords, blockRecord}
 use Rattle.block.proofs.Records.{length-op-records}
@@ -26,11 +26,11 @@ some-record address [] old some = absurd (some refl)
 some-record address (first ∷ rest) old some = refl
 
 -- the records, zeros behind them, and then the header
-pub sealed : (address : ℕ) (ops : List Insn) (old lent head zeros : List ℕ) (n len : ℕ) → (n ≡ 0 → ⊥) → length old ≡ 1040 → Written ops old lent n len
-    → head ≡ headBytes address n len → zeros ≡ replicate (length (midOf (16 + n * 16) (length lent - (16 + n * 16)) lent)) 0
-    → (Done, head ++ drop 16 (putMid (16 + n * 16) (length lent - (16 + n * 16)) lent zeros)) ≡ formedInto Done address ops old
-unfolding blockRecord patch
-sealed address ops old lent head zeros n len some l w h z =
+pub sealed : (address : ℕ) (ops : List Insn) (old lent zeros : List ℕ) (n len : ℕ) → (n ≡ 0 → ⊥) → length old ≡ 1040 → Written ops old lent n len
+    → zeros ≡ replicate (length (midOf (16 + n * 16) (length lent - (16 + n * 16)) lent)) 0
+    → (Done, patch (putMid (16 + n * 16) (length lent - (16 + n * 16)) lent zeros) 0 (headBytes address n len)) ≡ formedInto Done address ops old
+unfolding blockRecord patch le
+sealed address ops old lent zeros n len some l w z =
     let recs = opRecords 0 ops in
     let front = take 16 old in
     let tail = drop (16 + length recs) old in
@@ -47,4 +47,4 @@ sealed address ops old lent head zeros n len some l w h z =
     let zeros-are : zeros ≡ replicate (1024 - 16 * length ops) 0 = z ∙ ap (λ (k : ℕ). replicate k 0) (mid ∙ unused) in
     let body : drop 16 (putMid (16 + n * 16) (length lent - (16 + n * 16)) lent zeros) ≡ recs ++ replicate (1024 - 16 * length ops) 0 =
     rw (written, none, append-nil zeros, append-assoc front recs zeros, zeros-are) (drop-at front (recs ++ replicate (1024 - 16 * length ops) 0) 16 front-long) in
-    rw (body, h, many, w .ended) (some-record address ops old (λ e. some (many ∙ e)))
+    rw (body, many, w .ended) (some-record address ops old (λ e. some (many ∙ e)))

@@ -15,10 +15,10 @@ use Rattle.form.specs.Forming.{formed}
 
 -- 2, 6, 3, by the lengths of the memory and of the lent record, the base and the address; Done where forming may begin
 abbrev pub formJudged : ℕ → ℕ → ℕ → ℕ → Answer
-formJudged size room base address =
-    cond (not (goodMemory size base)) (Refused BadGeometry)
+formJudged len room base address =
+    cond (not (goodMemory len base)) (Refused BadGeometry)
     (cond (not (eqb room 1040)) (Refused WrongBuffer)
-    (cond (not (inMemory size base address)) (Refused OutsideMemory) Done))
+    (cond (not (inMemory len base address)) (Refused OutsideMemory) Done))
 
 -- then the block, or 4 where it has no ops
 abbrev pub formedInto : Answer → ℕ → List Insn → List ℕ → Answer × List ℕ

@@ -2,4 +2,4 @@
 pub mod Forming
 pub mod Written
 pub mod Call
-pub mod Sound
+pub mod ProperReading

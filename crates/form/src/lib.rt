@@ -42,7 +42,7 @@ fn fetch_word(raw: u32, lent: &mut [u8], place: usize, off: u16) -> Put
             return Put::Nothing;
         }
         op::write_op(lent, place, Op::Fallback { raw }, 4, off);
-        return Put::Recorded(9, 4);
+        return Put::Recorded(OpRecord::FALLBACK, 4);
     };
     Put::Recorded(op, 4)
 }
@@ -102,22 +102,21 @@ fn form_rest(s: &[u8], address: u64, lent: &mut [u8]) -> Answer
         return Answer::Refused(Refusal::NoOp);
     }
     bits::fill(&mut lent[BlockRecord::HEAD + count * OpRecord::LEN..], 0);
-    let head = block::head_bytes(address, count as u16, len as u16);
-    bits::copy_all(&head, &mut lent[0..BlockRecord::HEAD]);
+    block::put_head(lent, address, count as u16, len as u16);
     Answer::Done // the whole record
 }
 
 // Whether forming may begin, by the lengths of the memory and of the lent record.
-fn judge_form(size: u64, room: usize, base: u64, address: u64) -> Answer
-    ensures { λ r. ⌜ r ≡ formJudged size room base address ⌝ }
+fn judge_form(len: u64, room: usize, base: u64, address: u64) -> Answer
+    ensures { λ r. ⌜ r ≡ formJudged len room base address ⌝ }
 {
-    if !block::good_memory(size, base) {
+    if !block::good_memory(len, base) {
         return Answer::Refused(Refusal::BadGeometry);
     }
     if room != BlockRecord::LEN {
         return Answer::Refused(Refusal::WrongBuffer);
     }
-    if !block::in_memory(size, base, address) {
+    if !block::in_memory(len, base, address) {
         return Answer::Refused(Refusal::OutsideMemory);
     }
     Answer::Done

@@ -14,7 +14,7 @@ use Rattle.bits.specs.Bytes.{le, patch}
 use Rattle.bits.proofs.Bytes.{length-le, length-patch, getD-before, getD-behind}
 use Rattle.bits.proofs.Every.{decide}
 use Rattle.answer.specs.declared.Answer.the-variants.{Done}
-use Rattle.block.specs.Memory.{page}
+use Rattle.block.specs.Memory.{pageBytes}
 use Rattle.form.proofs.Page.{by-bytes}
 use Rattle.store.specs.Layout.{holds, slotOf, Bounded}
 use Rattle.store.specs.Places.{recordIn}
@@ -66,7 +66,7 @@ module _ (s m : List ℕ) (at n v : ℕ) (g : Geometry) (t : Granted s (length m
   room : at - g .base + length (le n v) ≤ length m
   room = omega (arith, length-le n v, t .low, t .high, t .whole)
 
-  untouched : (a : ℕ) → holds g a ≡ true → (pageOf at ≡ pageOf a → ⊥) → (pageOf (at + n - 1) ≡ pageOf a → ⊥) → page m (g .base) a ≡ page (patch m (at - g .base) (le n v)) (g .base) a
+  untouched : (a : ℕ) → holds g a ≡ true → (pageOf at ≡ pageOf a → ⊥) → (pageOf (at + n - 1) ≡ pageOf a → ⊥) → pageBytes m (g .base) a ≡ pageBytes (patch m (at - g .base) (le n v)) (g .base) a
   untouched a able first last = by-bytes m (patch m (at - g .base) (le n v)) (g .base) a (sym (length-patch m (at - g .base) (le n v) room)) (λ i e. sym (go i e (decLt i (at - g .base))))
     where
       in-memory : (g .base ≤ a) × (a < g .base + 4096 * g .pages)

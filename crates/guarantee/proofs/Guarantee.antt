@@ -15,8 +15,7 @@ use Rattle.store.specs.Places.{recordIn}
 use Rattle.store.specs.declared.Geometry.{Geometry}
 use Rattle.store.specs.declared.Opened.the-variants.{Sound}
 use Rattle.cache.specs.Answers.{lookupNumber}
-use Rattle.cache.specs.Calls.{makeJudged, made, makeCall, lookupCall, insertJudged, insertCall, noticeCall, flushCall, generationCall}
-use Rattle.cache.specs.Calls as cache
+use Rattle.cache.specs.Calls.{makeJudged, makeBy, makeCall, lookupCall, insertJudged, insertBy, insertCall, noticeCall, flushCall, generationCall}
 use Rattle.cache.specs.declared.ReportAnswer.the-variants.{Reported}
 use Rattle.cache.specs.declared.Judged.{Judged}
 use Rattle.cache.specs.declared.Judged.the-variants.{Accepted, Rejected}
@@ -77,14 +76,14 @@ module _ (p : Past) (l : Lent) (start : Follows p (l .store)) (calls : List Call
   pub make-answers : (e base pages : ℕ) → makeCall e base pages (run calls l .store) .0 ≡ answered (makeJudged e base pages (length (l .store)))
   make-answers e base pages = go (makeJudged e base pages (length (run calls l .store))) ∙ ap (λ (n : ℕ). answered (makeJudged e base pages n)) (kept p l start calls .stored)
     where
-      go : (j : Judged) → made j (run calls l .store) .0 ≡ answered j
+      go : (j : Judged) → makeBy j (run calls l .store) .0 ≡ answered j
       go (Accepted k) = refl
       go (Rejected why) = refl
 
   pub insert-answers : (a : ℕ) (rec : List ℕ) → insertCall (run calls l .store) a rec .0 ≡ answered (insertJudged (Sound g) a rec)
   insert-answers a rec = rw (stands .sound) (go (insertJudged (Sound g) a rec))
     where
-      go : (j : Judged) → cache.inserted j (run calls l .store) a rec .0 ≡ answered j
+      go : (j : Judged) → insertBy j (run calls l .store) a rec .0 ≡ answered j
       go (Accepted k) = refl
       go (Rejected why) = refl
 

@@ -15,7 +15,7 @@ use Rattle.store.specs.Places.{emptyPlace}
 use Rattle.store.specs.declared.Geometry.{Geometry}
 use Rattle.store.proofs.Known.{holds-are, slot-lt}
 use Rattle.cache.specs.Calls.{placeOf, lookupCall}
-use Rattle.cache.specs.Calls as cache
+use Rattle.cache.specs.Answers.{lookupPart}
 use Rattle.cache.specs.declared.LookupAnswer.{LookupAnswer}
 use Rattle.cache.specs.declared.LookupAnswer.the-variants.{Hit, LookupRefused}
 use Rattle.answer.specs.declared.Refusal.the-variants.{NothingFound}
@@ -37,7 +37,7 @@ module _ (g : Geometry) (h : List Event) (s : List ℕ) (y : Stands g h s) (a : 
 
   -- the answer, by the address that the place holds
   answer : ℕ → LookupAnswer
-  answer b = cond (holds g a && eqb b a) (Hit (placeOf g a) (g .size)) (LookupRefused NothingFound)
+  answer b = cond (holds g a && eqb b a) (Hit (placeOf g a) (g .stride)) (LookupRefused NothingFound)
 
   nothing-empty : (t : Bool) → holds g a ≡ t → (t && eqb 0xFFFF_FFFF_FFFF_FFFF a) ≡ false
   nothing-empty true e = ne-eqb 0xFFFF_FFFF_FFFF_FFFF a (λ q. omega (arith, holds-are g a e, bounds .below))
@@ -45,14 +45,14 @@ module _ (g : Geometry) (h : List Event) (s : List ℕ) (y : Stands g h s) (a : 
 
   by-place : (k : Place) → Fitted g k → answer (doublewordAt (bytesOf g k) 0) ≡ lookupAnswered g a (found k a)
   unfolding answer
-  by-place empty w = rw (empty-address (g .size), nothing-empty (holds g a) refl)
+  by-place empty w = rw (empty-address (g .stride), nothing-empty (holds g a) refl)
   by-place (full b r) w = rw (w .named) (go (eqb b a) refl)
     where
-      go : (t : Bool) → eqb b a ≡ t → cond (holds g a && t) (Hit (placeOf g a) (g .size)) (LookupRefused NothingFound) ≡ lookupAnswered g a (cond t (some r) none)
+      go : (t : Bool) → eqb b a ≡ t → cond (holds g a && t) (Hit (placeOf g a) (g .stride)) (LookupRefused NothingFound) ≡ lookupAnswered g a (cond t (some r) none)
       go true q = rw (ap (holds g) (sym (eqb-true b a q)) ∙ w .able)
       go false q = none-shown (holds g a)
         where
-          none-shown : (t : Bool) → cond (t && false) (Hit (placeOf g a) (g .size)) (LookupRefused NothingFound) ≡ LookupRefused NothingFound
+          none-shown : (t : Bool) → cond (t && false) (Hit (placeOf g a) (g .stride)) (LookupRefused NothingFound) ≡ LookupRefused NothingFound
           none-shown true = refl
           none-shown false = refl
 
@@ -60,13 +60,13 @@ module _ (g : Geometry) (h : List Event) (s : List ℕ) (y : Stands g h s) (a : 
   unfolding answer
   lookup-is =
       rw (y .sound)
-      (ap answer (sym (doubleword-part s (placeOf g a) (g .size) (omega (arith, bounds .room))) ∙ ap (λ (p : List ℕ). doublewordAt p 0) (place-is g h s y (slotOf g a) (slot-lt g a)))
+      (ap answer (sym (doubleword-part s (placeOf g a) (g .stride) (omega (arith, bounds .room))) ∙ ap (λ (p : List ℕ). doublewordAt p 0) (place-is g h s y (slotOf g a) (slot-lt g a)))
       ∙ by-place (places (slotOf g) pageOf h (slotOf g a)) (fitted g h s y (slotOf g a))
       ∙ ap (lookupAnswered g a) (answers (slotOf g) pageOf h a))
 
-  pub lookup-returns : cache.shown s (lookupCall s a) ≡ partFor g (shown (slotOf g) pageOf h a)
-  lookup-returns = ap (cache.shown s) lookup-is ∙ go (shown (slotOf g) pageOf h a) refl
+  pub lookup-returns : lookupPart s (lookupCall s a) ≡ partFor g (shown (slotOf g) pageOf h a)
+  lookup-returns = ap (lookupPart s) lookup-is ∙ go (shown (slotOf g) pageOf h a) refl
     where
-      go : (o : Option (List ℕ)) → shown (slotOf g) pageOf h a ≡ o → cache.shown s (lookupAnswered g a o) ≡ partFor g o
+      go : (o : Option (List ℕ)) → shown (slotOf g) pageOf h a ≡ o → lookupPart s (lookupAnswered g a o) ≡ partFor g o
       go (some r) e = y .full a r e
       go none e = refl

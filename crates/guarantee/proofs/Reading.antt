@@ -12,10 +12,10 @@ use Rattle.block.specs.Memory.{inMemory}
 use Rattle.block.specs.WellFormed.{wellFormed}
 use Rattle.block.proofs.Head.{says}
 use Rattle.form.specs.Call.{formCall}
-use Rattle.form.specs.Sound as readings
+use Rattle.form.specs.ProperReading.{ProperReading}
 use Rattle.form.proofs.Judged.{formed-done}
 use Rattle.form.proofs.Page.{same-page}
-use Rattle.form.proofs.Sound.{formed-well}
+use Rattle.form.proofs.FormedWell.{formed-well}
 use Rattle.store.specs.Layout.{holds}
 use Rattle.store.specs.Places.{recordIn}
 use Rattle.store.specs.declared.Geometry.{Geometry}
@@ -40,7 +40,7 @@ pub never-stale-formed : (reading : Reading) (lent : List ℕ) (p : Past) (l : L
 never-stale-formed reading lent = never-stale (forming reading lent) (forming-local reading lent)
 
 -- the premise can be met: from a memory of bytes, as long as the store says, Form gives what Insert accepts
-module _ (reading : Reading) (sound : readings.Sound reading) (g : Geometry) (m : List ℕ) (byte : (i : ℕ) → getD m i 0 < 256) (long : length m ≡ 4096 * g .pages) (a : ℕ) (lent rec : List ℕ) where
+module _ (reading : Reading) (proper : ProperReading reading) (g : Geometry) (m : List ℕ) (byte : (i : ℕ) → getD m i 0 < 256) (long : length m ≡ 4096 * g .pages) (a : ℕ) (lent rec : List ℕ) where
   taken : wellFormed rec a ≡ true → inMemory (length m) (g .base) a ≡ true → insertJudged (Sound g) a rec ≡ Accepted g
   unfolding holds
   taken w able = rw (eq-eqb (length rec) 1040 (says w .0 .long), ap (λ (n : ℕ). inMemory n (g .base) a) (sym long) ∙ able, w)
@@ -48,4 +48,4 @@ module _ (reading : Reading) (sound : readings.Sound reading) (g : Geometry) (m 
   pub formed-accepted : formCall reading m (g .base) a lent ≡ (Done, rec) → insertJudged (Sound g) a rec ≡ Accepted g
   formed-accepted e =
       let f = formed-done a lent rec reading m (g .base) e in
-      taken (ap (λ (r : List ℕ). wellFormed r a) (sym (f .2)) ∙ formed-well reading sound m (g .base) a byte (f .0 .good) (f .0 .inner) (f .1)) (f .0 .inner)
+      taken (ap (λ (r : List ℕ). wellFormed r a) (sym (f .2)) ∙ formed-well reading proper m (g .base) a byte (f .0 .good) (f .0 .inner) (f .1)) (f .0 .inner)

@@ -11,21 +11,19 @@ use borrow.Author.Tests.{eqb-true}
 use Rattle.bits.specs.Bytes.{le, patch}
 use Rattle.bits.proofs.Bytes.{length-le, length-patch}
 use Rattle.bits.proofs.Tests.{and-both}
-use Rattle.store.specs.Layout.{header, inBounds, storeSize, geometry, opened, holds, Fitting}
+use Rattle.store.specs.Layout.{header, inBounds, storeLen, geometry, opened, holds, Fitting}
 use Rattle.store.specs.declared.Geometry.{Geometry}
 use Rattle.store.specs.declared.Opened.{Opened}
 use Rattle.store.specs.declared.Opened.the-variants.{Sound, NotAStore}
 use Rattle.store.proofs.Known.{bounds-are}
 use Rattle.store.proofs.Held.{place-long}
 use Rattle.store.proofs.View.{fitting-blank, fitting-flushed, header-long}
-use Rattle.cache.specs.Calls.{makeJudged, makeCall, insertJudged, insertedIn, insertCall, watched, noticedIn, noticed, noticeCall, flushCall}
-use Rattle.cache.specs.Calls as cache
+use Rattle.cache.specs.Calls.{makeJudged, makeCall, insertJudged, insertedIn, insertBy, insertCall, watched, noticedIn, noticeBy, noticeCall, flushBy, flushCall}
 use Rattle.cache.specs.declared.Judged.{Judged}
 use Rattle.cache.specs.declared.Judged.the-variants.{Accepted, Rejected}
 use Rattle.cache.proofs.Checks.{opened-fits, Taken, insert-taken}
 use Rattle.cache.proofs.View.{fitting-evicted, fitting-inserted}
-use Rattle.write.specs.Write.{writeJudged, written, writeCall}
-use Rattle.write.specs.Write as writes
+use Rattle.write.specs.Write.{writeJudged, noticedPages, writeBy, writeCall}
 use Rattle.write.proofs.Granted.{Granted, write-granted}
 use Rattle.history.specs.History.{Event, inserted}
 use Rattle.guarantee.specs.Calls.{Use, lookup, insert, notice, flush, generation, write, Call, make, uses, Lent, storing, done, run}
@@ -38,9 +36,9 @@ length-insert : (s : List ℕ) (a : ℕ) (rec : List ℕ) → length (insertCall
 length-insert s a rec = go (insertJudged (opened s) a rec) refl
   where
     accepted : (g : Geometry) → Taken s a rec g → length (insertedIn g s a rec) ≡ length s
-    accepted g t = let f = opened-fits s g (t .sound) in fitting-inserted g s f a (t .inner) rec (place-long g rec s (t .sound) (t .whole)) .size ∙ sym (f .size)
+    accepted g t = let f = opened-fits s g (t .sound) in fitting-inserted g s f a (t .inner) rec (place-long g rec s (t .sound) (t .whole)) .exact ∙ sym (f .exact)
 
-    go : (j : Judged) → insertJudged (opened s) a rec ≡ j → length (cache.inserted j s a rec .1) ≡ length s
+    go : (j : Judged) → insertJudged (opened s) a rec ≡ j → length (insertBy j s a rec .1) ≡ length s
     go (Accepted g) e = accepted g (insert-taken s a rec g e)
     go (Rejected why) e = refl
 
@@ -51,33 +49,33 @@ fitting-noticed g s a f = go (watched g s a) refl
     go true e = rw e (fitting-evicted g s f a (and-both (holds g a) _ e .0))
     go false e = rw e f
 
-fitting-touched : (g : Geometry) (s : List ℕ) (a b : ℕ) → Fitting g s → Fitting g (writes.touched g s a b .1)
+fitting-touched : (g : Geometry) (s : List ℕ) (a b : ℕ) → Fitting g s → Fitting g (noticedPages g s a b .1)
 fitting-touched g s a b f = go (eqb (pageOf a) (pageOf b)) refl
   where
-    go : (t : Bool) → eqb (pageOf a) (pageOf b) ≡ t → Fitting g (writes.touched g s a b .1)
+    go : (t : Bool) → eqb (pageOf a) (pageOf b) ≡ t → Fitting g (noticedPages g s a b .1)
     go true e = rw e (fitting-noticed g s a f)
     go false e = rw e (fitting-noticed g (noticedIn g s a .1) b (fitting-noticed g s a f))
 
 length-notice : (s : List ℕ) (a : ℕ) → length (noticeCall s a .1) ≡ length s
 length-notice s a = go (opened s) refl
   where
-    go : (o : Opened) → opened s ≡ o → length (noticed o s a .1) ≡ length s
-    go (Sound g) e = let f = opened-fits s g e in fitting-noticed g s a f .size ∙ sym (f .size)
+    go : (o : Opened) → opened s ≡ o → length (noticeBy o s a .1) ≡ length s
+    go (Sound g) e = let f = opened-fits s g e in fitting-noticed g s a f .exact ∙ sym (f .exact)
     go NotAStore e = refl
 
 length-flush : (s : List ℕ) → length (flushCall s .1) ≡ length s
 length-flush s = go (opened s) refl
   where
-    go : (o : Opened) → opened s ≡ o → length (cache.flushed o s .1) ≡ length s
-    go (Sound g) e = let f = opened-fits s g e in fitting-flushed g s f .size ∙ sym (f .size)
+    go : (o : Opened) → opened s ≡ o → length (flushBy o s .1) ≡ length s
+    go (Sound g) e = let f = opened-fits s g e in fitting-flushed g s f .exact ∙ sym (f .exact)
     go NotAStore e = refl
 
 module _ (s m : List ℕ) (a n v : ℕ) where
   length-write : length (writeCall s m a n v .1) ≡ length s
   length-write = go (writeJudged (opened s) (length m) a n) refl
     where
-      go : (j : Judged) → writeJudged (opened s) (length m) a n ≡ j → length (written j s m a n v .1) ≡ length s
-      go (Accepted g) e = let f = opened-fits s g (write-granted s (length m) a n g e .sound) in fitting-touched g s a (a + n - 1) f .size ∙ sym (f .size)
+      go : (j : Judged) → writeJudged (opened s) (length m) a n ≡ j → length (writeBy j s m a n v .1) ≡ length s
+      go (Accepted g) e = let f = opened-fits s g (write-granted s (length m) a n g e .sound) in fitting-touched g s a (a + n - 1) f .exact ∙ sym (f .exact)
       go (Rejected why) e = refl
 
   length-memory : length (writeCall s m a n v .2) ≡ length m
@@ -86,7 +84,7 @@ module _ (s m : List ℕ) (a n v : ℕ) where
       accepted : (g : Geometry) → Granted s (length m) a n g → length (patch m (a - g .base) (le n v)) ≡ length m
       accepted g t = length-patch m (a - g .base) (le n v) (omega (arith, length-le n v, t .low, t .high, t .whole))
 
-      go : (j : Judged) → writeJudged (opened s) (length m) a n ≡ j → length (written j s m a n v .2) ≡ length m
+      go : (j : Judged) → writeJudged (opened s) (length m) a n ≡ j → length (writeBy j s m a n v .2) ≡ length m
       go (Accepted g) e = accepted g (write-granted s (length m) a n g e)
       go (Rejected why) e = refl
 
@@ -117,11 +115,11 @@ module _ (g : Geometry) (h : List Event) (s : List ℕ) (y : Stands g h s) where
   insert-own : (a : ℕ) (rec : List ℕ) (k : Geometry) → insertJudged (Sound g) a rec ≡ Accepted k → insertJudged (Sound g) a rec ≡ Accepted g
   insert-own a rec k e = e ∙ ap Accepted (sound-same k g (sym (insert-taken s a rec k (ap (λ (o : Opened). insertJudged o a rec) (y .sound) ∙ e) .sound) ∙ y .sound))
 
-  pub write-own : (room a n : ℕ) (k : Geometry) → writeJudged (Sound g) room a n ≡ Accepted k → (writeJudged (Sound g) room a n ≡ Accepted g) × Granted s room a n g
-  write-own room a n k e =
-      let t = write-granted s room a n k (ap (λ (o : Opened). writeJudged o room a n) (y .sound) ∙ e) in
+  pub write-own : (mLen a n : ℕ) (k : Geometry) → writeJudged (Sound g) mLen a n ≡ Accepted k → (writeJudged (Sound g) mLen a n ≡ Accepted g) × Granted s mLen a n g
+  write-own mLen a n k e =
+      let t = write-granted s mLen a n k (ap (λ (o : Opened). writeJudged o mLen a n) (y .sound) ∙ e) in
       let same = sound-same k g (sym (t .sound) ∙ y .sound) in
-      (e ∙ ap Accepted same, subst (Granted s room a n) same t)
+      (e ∙ ap Accepted same, subst (Granted s mLen a n) same t)
 
   module _ (m : List ℕ) where
     insert-follows : (a : ℕ) (rec : List ℕ) → Stands g (events (length m) g (insert a rec) ++ h) (insertCall s a rec .1)
@@ -150,32 +148,32 @@ keeps g h l y generation = y
 keeps g h l y (write a n v) = write-follows g h (l .store) y (l .memory) a n v
 
 -- both buffers, after calls that told this past
-pub record Kept (size room : ℕ) (p : Past) (l : Lent) : Type 0 where
-  pub stored : length (l .store) ≡ size
-  pub roomy : length (l .memory) ≡ room
+pub record Kept (sLen mLen : ℕ) (p : Past) (l : Lent) : Type 0 where
+  pub stored : length (l .store) ≡ sLen
+  pub roomy : length (l .memory) ≡ mLen
   pub follows : Follows p (l .store)
 
-module _ (size room : ℕ) (p : Past) (l : Lent) (k : Kept size room p l) where
-  made-kept : (e base pages : ℕ) → Kept size room (ifAccepted (makeJudged e base pages size) (λ g. since g []) p) (storing l (makeCall e base pages (l .store) .1))
-  made-kept e base pages = go (inBounds e base pages) refl (eqb size (storeSize g)) refl
+module _ (sLen mLen : ℕ) (p : Past) (l : Lent) (k : Kept sLen mLen p l) where
+  made-kept : (e base pages : ℕ) → Kept sLen mLen (ifAccepted (makeJudged e base pages sLen) (λ g. since g []) p) (storing l (makeCall e base pages (l .store) .1))
+  made-kept e base pages = go (inBounds e base pages) refl (eqb sLen (storeLen g)) refl
     where
       g : Geometry
       g = geometry e base pages
 
-      go : (x : Bool) → inBounds e base pages ≡ x → (z : Bool) → eqb size (storeSize g) ≡ z → Kept size room (ifAccepted (makeJudged e base pages size) (λ g. since g []) p) (storing l (makeCall e base pages (l .store) .1))
+      go : (x : Bool) → inBounds e base pages ≡ x → (z : Bool) → eqb sLen (storeLen g) ≡ z → Kept sLen mLen (ifAccepted (makeJudged e base pages sLen) (λ g. since g []) p) (storing l (makeCall e base pages (l .store) .1))
       go true ex true ez =
           rw (k .stored, ex, ez) (record {
-            stored = fitting-blank g (bounds-are e base pages ex) (header g 1) (header-long e base pages ex) .size ∙ sym (eqb-true size (storeSize g) ez);
+            stored = fitting-blank g (bounds-are e base pages ex) (header g 1) (header-long e base pages ex) .exact ∙ sym (eqb-true sLen (storeLen g) ez);
             roomy = k .roomy;
             follows = make-keeps e base pages ex;
           })
       go true ex false ez = rw (k .stored, ex, ez) k
       go false ex z ez = rw (k .stored, ex) k
 
-  used-kept : (c : Use) → Kept size room (told room c p) (done c l .1)
+  used-kept : (c : Use) → Kept sLen mLen (told mLen c p) (done c l .1)
   used-kept c = record { stored = length-store c l ∙ k .stored; roomy = length-room c l ∙ k .roomy; follows = go p (k .follows) }
     where
-      go : (p : Past) → Follows p (l .store) → Follows (told room c p) (done c l .1 .store)
+      go : (p : Past) → Follows p (l .store) → Follows (told mLen c p) (done c l .1 .store)
       go unmade y = tt
       go (since g h) y = subst (λ (n : ℕ). Stands g (events n g c ++ h) (done c l .1 .store)) (k .roomy) (keeps g h l y c)
 

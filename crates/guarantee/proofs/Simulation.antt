@@ -27,7 +27,7 @@ use Rattle.cache.specs.declared.Judged.the-variants.{Accepted}
 use Rattle.cache.specs.declared.Report.{Report}
 use Rattle.cache.proofs.Checks.{opened-fits, insert-taken}
 use Rattle.cache.proofs.View.{opened-evicted, generation-evicted, bits-evicted, place-evicted, opened-inserted, generation-inserted, bits-inserted, place-inserted}
-use Rattle.write.specs.Write as writes
+use Rattle.write.specs.Write.{noticedPages}
 use Rattle.history.specs.History.{Event, inserted, touched, flushed, Every, none-left, and-then, OfInserted, insertions, shown, marked}
 use Rattle.history.proofs.Sentences.{no-some}
 use Rattle.history.proofs.Places.{Place, empty, full, swept, places, Was, was, full-shown, shown-full, empty-none}
@@ -38,7 +38,7 @@ use Rattle.guarantee.specs.Answers.{report, reports}
 -- an accepted insertion: its address lies in memory, and what the place holds for the record is as long as a place, names the address and shows the record
 pub record Fits (g : Geometry) (a : ℕ) (r : List ℕ) : Type 0 where
   pub able : holds g a ≡ true
-  pub long : length (placeFor g r) ≡ g .size
+  pub long : length (placeFor g r) ≡ g .stride
   pub named : doublewordAt (placeFor g r) 0 ≡ a
   pub back : recordIn g (placeFor g r) ≡ r
 
@@ -49,7 +49,7 @@ fits-accepted g s o a r e =
 
 -- the bytes of a place
 abbrev pub bytesOf : Geometry → Place → List ℕ
-bytesOf g empty = emptyPlace (g .size)
+bytesOf g empty = emptyPlace (g .stride)
 bytesOf g (full a r) = placeFor g r
 
 -- the places of a store that stands for a past, by slots
@@ -92,14 +92,14 @@ Fitted g (full a r) = Fits g a r
 
 scanned : (g : Geometry) (p : ℕ) (k : Place) → Bounded g → Fitted g k → emptied p (bytesOf g k) ≡ bytesOf g (swept (slotOf g) pageOf p k)
 unfolding emptied
-scanned g p empty b w = go (eqb (doublewordAt (emptyPlace (g .size)) 0 / 4096) p)
+scanned g p empty b w = go (eqb (doublewordAt (emptyPlace (g .stride)) 0 / 4096) p)
   where
-    go : (t : Bool) → cond t (emptyPlace (length (emptyPlace (g .size)))) (emptyPlace (g .size)) ≡ emptyPlace (g .size)
-    go true = ap emptyPlace (length-empty (g .size) (omega (arith, b .room)))
+    go : (t : Bool) → cond t (emptyPlace (length (emptyPlace (g .stride)))) (emptyPlace (g .stride)) ≡ emptyPlace (g .stride)
+    go true = ap emptyPlace (length-empty (g .stride) (omega (arith, b .room)))
     go false = refl
 scanned g p (full a r) b w = rw (w .named, w .long) (go (eqb (a / 4096) p))
   where
-    go : (t : Bool) → cond t (emptyPlace (g .size)) (placeFor g r) ≡ bytesOf g (cond t empty (full a r))
+    go : (t : Bool) → cond t (emptyPlace (g .stride)) (placeFor g r) ≡ bytesOf g (cond t empty (full a r))
     go true = refl
     go false = refl
 
@@ -220,21 +220,21 @@ module _ (g : Geometry) (h : List Event) (s : List ℕ) (y : Stands g h s) (a b 
   second : Stands g (touched (pageOf a) ∷ h) (noticedIn g s a .1)
   second = notice-keeps g h s y a
 
-  pub write-reports : writes.touched g s a b .0 ≡ reports g h (crossed a b)
+  pub write-reports : noticedPages g s a b .0 ≡ reports g h (crossed a b)
   unfolding reports
   write-reports = go (eqb (pageOf a) (pageOf b)) refl
     where
       first : noticedIn g s a .0 ≡ summed (record { examined = 0 }) (report g h (pageOf a))
       first = notice-reports g h s y a ∙ sym (alone (report g h (pageOf a)))
 
-      go : (t : Bool) → eqb (pageOf a) (pageOf b) ≡ t → writes.touched g s a b .0 ≡ reports g h (crossed a b)
+      go : (t : Bool) → eqb (pageOf a) (pageOf b) ≡ t → noticedPages g s a b .0 ≡ reports g h (crossed a b)
       go true e = rw e first
       go false e = rw e (ap₂ summed first (notice-reports g (touched (pageOf a) ∷ h) (noticedIn g s a .1) second b))
 
-  pub write-keeps : Stands g (crossed a b ++ h) (writes.touched g s a b .1)
+  pub write-keeps : Stands g (crossed a b ++ h) (noticedPages g s a b .1)
   write-keeps = go (eqb (pageOf a) (pageOf b)) refl
     where
-      go : (t : Bool) → eqb (pageOf a) (pageOf b) ≡ t → Stands g (crossed a b ++ h) (writes.touched g s a b .1)
+      go : (t : Bool) → eqb (pageOf a) (pageOf b) ≡ t → Stands g (crossed a b ++ h) (noticedPages g s a b .1)
       go true e = rw e second
       go false e = rw e (notice-keeps g (touched (pageOf a) ∷ h) (noticedIn g s a .1) second b)
 

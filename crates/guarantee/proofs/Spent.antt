@@ -19,17 +19,17 @@ use Rattle.history.proofs.Bound.{bound}
 use Rattle.guarantee.specs.Calls.{Use, lookup, insert, notice, flush, generation, write, Call, make, uses, Lent, done, run}
 use Rattle.guarantee.specs.Past.{Past, unmade, since, pageOf, ifAccepted, events, told, past, pastOf}
 use Rattle.guarantee.specs.Stands.{Stands, Follows}
-use Rattle.guarantee.specs.Answers.{report, reports, writeAnswered, slots, spent}
+use Rattle.guarantee.specs.Answers.{report, reports, writeAnswered, slotsReported, spent}
 use Rattle.guarantee.proofs.Simulation.{notice-reports, alone}
 use Rattle.guarantee.proofs.Run.{kept}
 use Rattle.guarantee.proofs.Guarantee.{write-is}
 
 -- what a call's events report comes on top of what the past has
-added : (g : Geometry) (h new : List Event) → reports g h new .examined + slots (since g h) ≡ slots (since g (new ++ h))
+added : (g : Geometry) (h new : List Event) → reports g h new .examined + slotsReported (since g h) ≡ slotsReported (since g (new ++ h))
 unfolding reports total
 added g h [] = let sum : 0 + total (slotOf g) pageOf (2 ^ g .e) h ≡ total (slotOf g) pageOf (2 ^ g .e) h = omega arith in sum
 added g h (inserted a rec ∷ new) = added g h new
-added g h (touched p ∷ new) = turned (reports g h new .examined) (examined (slotOf g) pageOf (2 ^ g .e) (new ++ h) p) (slots (since g h)) (slots (since g (new ++ h))) (added g h new)
+added g h (touched p ∷ new) = turned (reports g h new .examined) (examined (slotOf g) pageOf (2 ^ g .e) (new ++ h) p) (slotsReported (since g h)) (slotsReported (since g (new ++ h))) (added g h new)
   where
     turned : (x y z w : ℕ) → x + z ≡ w → x + y + z ≡ y + w
     turned x y z w e = omega arith
@@ -55,14 +55,14 @@ reported g h l y (write a n v) = ap reportValue (write-is g h (l .store) y (l .m
 
 abbrev Paid : Past → ℕ → Type 0
 Paid unmade n = Unit {0}
-Paid (since g h) n = n ≡ slots (since g h)
+Paid (since g h) n = n ≡ slotsReported (since g h)
 
 module _ (p : Past) (l : Lent) (start : Follows p (l .store)) where
   paid : (calls : List Call) → Paid (pastOf p calls l) (spent p calls l)
   unfolding past spent total
   paid [] = go p
     where
-      go : (p : Past) → Paid p (slots p)
+      go : (p : Past) → Paid p (slotsReported p)
       go unmade = tt
       go (since g h) = refl
   paid (make e base pages ∷ calls) = go (makeJudged e base pages (length (l .store))) (pastOf p calls l) (paid calls)
@@ -79,7 +79,7 @@ module _ (p : Past) (l : Lent) (start : Follows p (l .store)) where
           ∙ added g h (events (length (l .memory)) g c)
 
   module _ (calls : List Call) (g : Geometry) (h : List Event) (is : pastOf p calls l ≡ since g h) where
-    pub spent-is : spent p calls l ≡ slots (since g h)
+    pub spent-is : spent p calls l ≡ slotsReported (since g h)
     spent-is = subst (λ (z : Past). Paid z (spent p calls l)) is (paid calls)
 
     -- all insertions since the last accepted Make, those before the start among them: what is reported now may have been marked then

@@ -24,7 +24,7 @@ use Rattle.guarantee.specs.Past.{Past, unmade, since, pageOf, ifAccepted
 
 -- a lookup, by the record that the past shows: its slot's place, or nothing found
 abbrev pub lookupAnswered : Geometry → ℕ → Option (List ℕ) → LookupAnswer
-lookupAnswered g a (some r) = Hit (placeOf g a) (g .size)
+lookupAnswered g a (some r) = Hit (placeOf g a) (g .stride)
 lookupAnswered g a none = LookupRefused NothingFound
 
 -- and the part of the store that it returns
@@ -54,12 +54,12 @@ writeAnswered (Accepted g) r = Reported r
 writeAnswered (Rejected why) r = NotReported why
 
 -- the slots that a past's calls have reported
-abbrev pub slots : Past → ℕ
-slots unmade = 0
-slots (since g h) = total (slotOf g) pageOf (2 ^ g .e) h
+abbrev pub slotsReported : Past → ℕ
+slotsReported unmade = 0
+slotsReported (since g h) = total (slotOf g) pageOf (2 ^ g .e) h
 
 -- the slots that all calls since the last accepted Make reported, those before the start by the past p that the store had then
 unfoldable pub spent : Past → List Call → Lent → ℕ
-spent p [] l = slots p
+spent p [] l = slotsReported p
 spent p (make e base pages ∷ calls) l = ifAccepted (makeJudged e base pages (length (l .store))) (λ g. 0) (spent p calls l)
 spent p (uses c ∷ calls) l = done c (run calls l) .0 + spent p calls l

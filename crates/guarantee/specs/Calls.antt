@@ -2,8 +2,8 @@
 -- Assumes nothing.
 use Prim.Native.Nat.{ℕ}
 use mathlib.Core.List.{List, [], _∷_}
-use Rattle.cache.specs.Answers.{reportValue}
-use Rattle.cache.specs.Calls.{makeCall, lookupCall, shown, insertCall, noticeCall, flushCall}
+use Rattle.cache.specs.Answers.{lookupPart, reportValue}
+use Rattle.cache.specs.Calls.{makeCall, lookupCall, insertCall, noticeCall, flushCall}
 use Rattle.cache.specs.declared.ReportAnswer.{ReportAnswer}
 use Rattle.write.specs.Write.{writeCall}
 
@@ -54,4 +54,4 @@ run (uses c ∷ calls) l = done c (run calls l) .1
 
 -- the part of the store that a lookup returns
 abbrev pub lookedUp : Lent → ℕ → List ℕ
-lookedUp l a = shown (l .store) (lookupCall (l .store) a)
+lookedUp l a = lookupPart (l .store) (lookupCall (l .store) a)

@@ -8,7 +8,7 @@ use lib.ListN.{length}
 use Rattle.answer.specs.declared.Answer.{Answer}
 use Rattle.answer.specs.declared.Answer.the-variants.{Done}
 use Rattle.op.specs.Reading.{Reading}
-use Rattle.block.specs.Memory.{page}
+use Rattle.block.specs.Memory.{pageBytes}
 use Rattle.form.specs.Call.{formCall}
 use Rattle.store.specs.Layout.{slotOf}
 use Rattle.store.specs.declared.Geometry.{Geometry}
@@ -22,7 +22,7 @@ Former = Geometry → List ℕ → ℕ → Answer × List ℕ
 
 -- it reads only the page of the address
 abbrev pub Local : Former → Type 0
-Local form = (g : Geometry) (m other : List ℕ) (a : ℕ) → length m ≡ length other → page m (g .base) a ≡ page other (g .base) a → form g m a ≡ form g other a
+Local form = (g : Geometry) (m other : List ℕ) (a : ℕ) → length m ≡ length other → pageBytes m (g .base) a ≡ pageBytes other (g .base) a → form g m a ≡ form g other a
 
 -- the Form call in any reading, into any lent record
 abbrev pub forming : Reading → List ℕ → Former

@@ -34,23 +34,23 @@ crossed a b = cond (eqb (pageOf a) (pageOf b)) (touched (pageOf a) ∷ []) (touc
 
 -- the events of a call, the newest first, on a store of this geometry and a memory of `room` bytes; a refusal is none
 unfoldable pub events : ℕ → Geometry → Use → List Event
-events room g (lookup a) = []
-events room g (insert a rec) = ifAccepted (insertJudged (Sound g) a rec) (λ k. inserted a rec ∷ []) []
-events room g (notice a) = touched (pageOf a) ∷ []
-events room g flush = flushed ∷ []
-events room g generation = []
-events room g (write a n v) = ifAccepted (writeJudged (Sound g) room a n) (λ k. crossed a (a + n - 1)) []
+events mLen g (lookup a) = []
+events mLen g (insert a rec) = ifAccepted (insertJudged (Sound g) a rec) (λ k. inserted a rec ∷ []) []
+events mLen g (notice a) = touched (pageOf a) ∷ []
+events mLen g flush = flushed ∷ []
+events mLen g generation = []
+events mLen g (write a n v) = ifAccepted (writeJudged (Sound g) mLen a n) (λ k. crossed a (a + n - 1)) []
 
 -- what a call adds to a past
 abbrev pub told : ℕ → Use → Past → Past
-told room c unmade = unmade
-told room c (since g h) = since g (events room g c ++ h)
+told mLen c unmade = unmade
+told mLen c (since g h) = since g (events mLen g c ++ h)
 
 -- the past of a store of `size` bytes after calls, from the past that it had before them; an accepted Make begins anew
 unfoldable pub past : ℕ → ℕ → Past → List Call → Past
-past size room p [] = p
-past size room p (make e base pages ∷ calls) = ifAccepted (makeJudged e base pages size) (λ g. since g []) (past size room p calls)
-past size room p (uses c ∷ calls) = told room c (past size room p calls)
+past sLen mLen p [] = p
+past sLen mLen p (make e base pages ∷ calls) = ifAccepted (makeJudged e base pages sLen) (λ g. since g []) (past sLen mLen p calls)
+past sLen mLen p (uses c ∷ calls) = told mLen c (past sLen mLen p calls)
 
 -- by the lengths of the buffers, which no call changes
 abbrev pub pastOf : Past → List Call → Lent → Past

@@ -23,7 +23,7 @@ pub record Stands (g : Geometry) (h : List Event) (s : List ℕ) : Type 0 where
   pub age : generationOf s ≡ (insertions h + 1) % 2 ^ 64
   -- a place holds the record that the past shows at an address of its slot, and is empty where it shows none
   pub full : (a : ℕ) (r : List ℕ) → shown (slotOf g) pageOf h a ≡ some r → placeIn g s (slotOf g a) ≡ placeFor g r
-  pub vacant : (i : ℕ) → i < 2 ^ g .e → ((a : ℕ) → slotOf g a ≡ i → shown (slotOf g) pageOf h a ≡ none) → placeIn g s i ≡ emptyPlace (g .size)
+  pub vacant : (i : ℕ) → i < 2 ^ g .e → ((a : ℕ) → slotOf g a ≡ i → shown (slotOf g) pageOf h a ≡ none) → placeIn g s i ≡ emptyPlace (g .stride)
   pub bits : (q : ℕ) → q < g .pages → pageBit s q ≡ marked (slotOf g) pageOf h (pageOf (g .base) + q)
   pub accepted : Every (Possible g) h
 

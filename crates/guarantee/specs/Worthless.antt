@@ -21,10 +21,10 @@ Counts = Geometry → List Event → ℕ → ℕ
 
 -- as the guarantee has it, after all calls on buffers of any lengths
 abbrev pub ShowsRight : Shows → Type 0
-ShowsRight f = (size room : ℕ) (calls : List Call) (g : Geometry) (h : List Event) → past size room unmade calls ≡ since g h → (a : ℕ) → f g h a ≡ shown (slotOf g) pageOf h a
+ShowsRight f = (sLen mLen : ℕ) (calls : List Call) (g : Geometry) (h : List Event) → past sLen mLen unmade calls ≡ since g h → (a : ℕ) → f g h a ≡ shown (slotOf g) pageOf h a
 
 abbrev pub CountsRight : Counts → Type 0
-CountsRight f = (size room : ℕ) (calls : List Call) (g : Geometry) (h : List Event) → past size room unmade calls ≡ since g h → (p : ℕ) → f g h p ≡ examined (slotOf g) pageOf (2 ^ g .e) h p
+CountsRight f = (sLen mLen : ℕ) (calls : List Call) (g : Geometry) (h : List Event) → past sLen mLen unmade calls ≡ since g h → (p : ℕ) → f g h p ≡ examined (slotOf g) pageOf (2 ^ g .e) h p
 
 -- takes insertions and keeps nothing
 abbrev pub keepsNothing : Shows

@@ -10,7 +10,7 @@ use Rattle.bits.specs.Bits.{bitsAt}
 use Rattle.bits.specs.Match.{case}
 use Rattle.bits.proofs.Cases.{at-any}
 use Rattle.bits.proofs.Every.{each, decide}
-use Rattle.op.specs.Record.{opFields}
+use Rattle.op.specs.Record.{fallbackNumber, opFields}
 use Rattle.op.specs.declared.Op.{Op}
 use Rattle.op.specs.declared.Op.the-variants.{Fallback}
 use Rattle.op.specs.declared.Decoded.the-variants.{Some, None}
@@ -55,5 +55,5 @@ half-low w h =
     (funct3 w) (omega arith))
 
 -- so an op that a halfword is read as has a record that is well formed
-pub half-op : (w : ℕ) (op : Op) → rustHalf w ≡ Some op → (eqb (opFields op .op) 9 ≡ false) × Proper op
+pub half-op : (w : ℕ) (op : Op) → rustHalf w ≡ Some op → (eqb (opFields op .op) fallbackNumber ≡ false) × Proper op
 half-op w op = other-op (rustHalf w) op (half-other w (quadrant w * 0x10 + funct3 w))

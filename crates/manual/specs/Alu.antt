@@ -6,7 +6,7 @@ use mathlib.Core.Option.{Option, none, some}
 use lib.Dec.{ltb, eqb}
 use lib.IntN.{ℤ, pos, negsuc, _+ℤ_, _-ℤ_}
 use lib.Signed.{ltZ}
-use Rattle.bits.specs.Bits.{bit, bitsAt, word}
+use Rattle.bits.specs.Bits.{bit, bitsAt, fromBits}
 use Rattle.op.specs.declared.AluKind.{AluKind}
 use Rattle.op.specs.declared.AluKind.the-variants.{Add, Sub, Sll, Slt, Sltu, Xor, Srl, Sra, Or, And, Addw, Subw, Sllw, Srlw, Sraw, Mul, Mulh, Mulhsu, Mulhu, Div, Divu, Rem, Remu, Mulw, Divw, Divuw, Remw, Remuw, Andn, Orn, Xnor, Rol, Ror, Rolw, Rorw, Min, Max, Minu, Maxu, Clz, Ctz, Cpop, Clzw, Ctzw, Cpopw, SextB, SextH, ZextH, Rev8, OrcB, Sh1add, Sh2add, Sh3add, AddUw, Sh1addUw, Sh2addUw, Sh3addUw, SlliUw}
 
@@ -25,26 +25,26 @@ extended n x = low64 (value n x)
 
 -- "zero-extended" from n bits
 abbrev pub zeroed : ℕ → ℕ → ℕ
-zeroed n x = word 64 (λ i. cond (ltb i n) (bit x i) 0)
+zeroed n x = fromBits 64 (λ i. cond (ltb i n) (bit x i) 0)
 
 -- n bits shifted by s: "zeros are shifted into the lower bits"
 abbrev pub left : ℕ → ℕ → ℕ → ℕ
-left n x s = word n (λ i. cond (ltb i s) 0 (bit x (i - s)))
+left n x s = fromBits n (λ i. cond (ltb i s) 0 (bit x (i - s)))
 
 -- "zeros are shifted into the upper bits"
 abbrev pub right : ℕ → ℕ → ℕ → ℕ
-right n x s = word n (λ i. cond (ltb (s + i) n) (bit x (s + i)) 0)
+right n x s = fromBits n (λ i. cond (ltb (s + i) n) (bit x (s + i)) 0)
 
 -- "the original sign bit is copied into the vacated upper bits"
 abbrev pub rightSigned : ℕ → ℕ → ℕ → ℕ
-rightSigned n x s = word n (λ i. bit x (min (s + i) (n - 1)))
+rightSigned n x s = fromBits n (λ i. bit x (min (s + i) (n - 1)))
 
 -- n bits rotated by s
 abbrev pub turnedLeft : ℕ → ℕ → ℕ → ℕ
-turnedLeft n x s = word n (λ i. bit x ((i + (n - s)) % n))
+turnedLeft n x s = fromBits n (λ i. bit x ((i + (n - s)) % n))
 
 abbrev pub turnedRight : ℕ → ℕ → ℕ → ℕ
-turnedRight n x s = word n (λ i. bit x ((i + s) % n))
+turnedRight n x s = fromBits n (λ i. bit x ((i + s) % n))
 
 -- "the number of 0's before the first 1" among f 0, f 1, .. f (n - 1); n where there is no 1
 unfoldable pub zeros : (ℕ → ℕ) → ℕ → ℕ
@@ -62,11 +62,11 @@ manualAlu Sub a b = some (low64 (pos a -ℤ pos b))
 manualAlu Sll a b = some (left 64 a (b % 2 ^ 6))
 manualAlu Slt a b = some (cond (ltZ (value 64 a) (value 64 b)) 1 0)
 manualAlu Sltu a b = some (cond (ltb a b) 1 0)
-manualAlu Xor a b = some (word 64 (λ i. (bit a i + bit b i) % 2))
+manualAlu Xor a b = some (fromBits 64 (λ i. (bit a i + bit b i) % 2))
 manualAlu Srl a b = some (right 64 a (b % 2 ^ 6))
 manualAlu Sra a b = some (rightSigned 64 a (b % 2 ^ 6))
-manualAlu Or a b = some (word 64 (λ i. max (bit a i) (bit b i)))
-manualAlu And a b = some (word 64 (λ i. min (bit a i) (bit b i)))
+manualAlu Or a b = some (fromBits 64 (λ i. max (bit a i) (bit b i)))
+manualAlu And a b = some (fromBits 64 (λ i. min (bit a i) (bit b i)))
 manualAlu Addw a b = some (extended 32 (low64 (pos a +ℤ pos b)))
 manualAlu Subw a b = some (extended 32 (low64 (pos a -ℤ pos b)))
 manualAlu Sllw a b = some (extended 32 (left 32 a (b % 2 ^ 5)))
@@ -85,9 +85,9 @@ manualAlu Divw a b = none
 manualAlu Divuw a b = none
 manualAlu Remw a b = none
 manualAlu Remuw a b = none
-manualAlu Andn a b = some (word 64 (λ i. min (bit a i) (1 - bit b i)))
-manualAlu Orn a b = some (word 64 (λ i. max (bit a i) (1 - bit b i)))
-manualAlu Xnor a b = some (word 64 (λ i. 1 - (bit a i + bit b i) % 2))
+manualAlu Andn a b = some (fromBits 64 (λ i. min (bit a i) (1 - bit b i)))
+manualAlu Orn a b = some (fromBits 64 (λ i. max (bit a i) (1 - bit b i)))
+manualAlu Xnor a b = some (fromBits 64 (λ i. 1 - (bit a i + bit b i) % 2))
 manualAlu Rol a b = some (turnedLeft 64 a (b % 2 ^ 6))
 manualAlu Ror a b = some (turnedRight 64 a (b % 2 ^ 6))
 manualAlu Rolw a b = some (extended 32 (turnedLeft 32 a (b % 2 ^ 5)))
@@ -105,8 +105,8 @@ manualAlu Cpopw a b = some (setBits 32 a)
 manualAlu SextB a b = some (extended 8 a)
 manualAlu SextH a b = some (extended 16 a)
 manualAlu ZextH a b = some (zeroed 16 a)
-manualAlu Rev8 a b = some (word 64 (λ i. bit a (8 * (7 - i / 8) + i % 8)))
-manualAlu OrcB a b = some (word 64 (λ i. cond (eqb (bitsAt a (8 * (i / 8)) 8) 0) 0 1))
+manualAlu Rev8 a b = some (fromBits 64 (λ i. bit a (8 * (7 - i / 8) + i % 8)))
+manualAlu OrcB a b = some (fromBits 64 (λ i. cond (eqb (bitsAt a (8 * (i / 8)) 8) 0) 0 1))
 manualAlu Sh1add a b = some (low64 (pos b +ℤ pos (left 64 a 1)))
 manualAlu Sh2add a b = some (low64 (pos b +ℤ pos (left 64 a 2)))
 manualAlu Sh3add a b = some (low64 (pos b +ℤ pos (left 64 a 3)))

@@ -24,7 +24,7 @@ use Rattle.manual.specs.Figures.{slice, imm, skip, figure}
 -- the format of an instruction's operands, with the op that it makes. I6 and I5 have a shift amount of six or five bits in place of
 -- the immediate, and I0 has none: all twelve bits belong to the opcode
 pub data Format : Type 0 where
-  Reserved LUI AUIPC JAL JALR : Format
+  NoRow LUI AUIPC JAL JALR : Format
   B : BranchKind → Format
   L : LoadKind → Format
   S : StoreKind → Format
@@ -48,7 +48,7 @@ pub data Line : Type 0 where
 
 infix 5 _∣_⟹_
 abbrev pub find : List Line → ℕ → ℕ → ℕ → Format
-find [] funct3 b31-25 b24-20 = Reserved
+find [] funct3 b31-25 b24-20 = NoRow
 find ((top ∣ k ⟹ format) ∷ lines) funct3 b31-25 b24-20 =
     cond (eqb funct3 k && fits top b31-25 b24-20) format (find lines funct3 b31-25 b24-20)
 
@@ -147,7 +147,7 @@ formatBy opcode funct3 b31-25 b24-20 =
     ∷ (0b1100111 ⇒ find jalr funct3 b31-25 b24-20)
     ∷ (0b1101111 ⇒ JAL)
     ∷ [])
-    Reserved
+    NoRow
 
 abbrev pub formatOf : ℕ → Format
 formatOf w = formatBy (slice w 6 0) (slice w 14 12) (slice w 31 25) (slice w 24 20)
@@ -178,7 +178,7 @@ abbrev pub immJ : ℕ → ℕ
 immJ w = figure w 32 (imm 20 20 ∷ imm 10 1 ∷ imm 11 11 ∷ imm 19 12 ∷ skip 5 ∷ skip 7 ∷ [])
 
 abbrev pub opOf : ℕ → Format → Decoded
-opOf w Reserved = None
+opOf w NoRow = None
 opOf w LUI = Some (Lui (rd w) (signed 32 (immU w)))
 opOf w AUIPC = Some (Auipc (rd w) (signed 32 (immU w)))
 opOf w JAL = Some (Jal (rd w) (signed 21 (immJ w)))

@@ -4,7 +4,7 @@ use mathlib.Core.Path.{_≡_, refl, sym, ap, subst, _∙_}
 use mathlib.Core.Bool.{false, false≢true}
 use Prim.Native.Nat.{ℕ}
 use lib.Dec.{eqb}
-use Rattle.op.specs.Record.{opFields}
+use Rattle.op.specs.Record.{fallbackNumber, opFields}
 use Rattle.op.specs.Proper.{Proper}
 use Rattle.op.specs.declared.Op.{Op}
 use Rattle.op.specs.declared.Op.the-variants.{Fallback}
@@ -20,17 +20,17 @@ ProperIn None = Unit {0}
 ProperIn (Some op) = Proper op
 
 pub record Other (d : Decoded) : Type 0 where
-  pub is : eqb (number d) 9 ≡ false
+  pub is : eqb (number d) fallbackNumber ≡ false
   pub proper : ProperIn d
 
 pub no-fallback : (d : Decoded) (raw : ℕ) → Other d → d ≡ Some (Fallback raw) → ⊥
-no-fallback d raw o e = false≢true (sym (o .is) ∙ ap (λ (x : Decoded). eqb (number x) 9) e)
+no-fallback d raw o e = false≢true (sym (o .is) ∙ ap (λ (x : Decoded). eqb (number x) fallbackNumber) e)
 
 pub none : Other None
 none = record { is = refl; proper = tt }
 
-pub some : {op : Op} → eqb (opFields op .op) 9 ≡ false → Proper op → Other (Some op)
+pub some : {op : Op} → eqb (opFields op .op) fallbackNumber ≡ false → Proper op → Other (Some op)
 some h p = record { is = h; proper = p }
 
-pub other-op : (d : Decoded) (op : Op) → Other d → d ≡ Some op → (eqb (opFields op .op) 9 ≡ false) × Proper op
-other-op d op o e = (sym (ap (λ (x : Decoded). eqb (number x) 9) e) ∙ o .is, subst ProperIn e (o .proper))
+pub other-op : (d : Decoded) (op : Op) → Other d → d ≡ Some op → (eqb (opFields op .op) fallbackNumber ≡ false) × Proper op
+other-op d op o e = (sym (ap (λ (x : Decoded). eqb (number x) fallbackNumber) e) ∙ o .is, subst ProperIn e (o .proper))

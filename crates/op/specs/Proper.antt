@@ -3,8 +3,8 @@
 use Prim.Native.Nat.{_^_, _≤_, _<_}
 use mathlib.Core.Bool.{cond}
 use lib.Dec.{eqb}
-use Rattle.op.specs.Record.{opFields}
+use Rattle.op.specs.Record.{fallbackNumber, opFields}
 use Rattle.op.specs.declared.Op.{Op}
 
 abbrev pub Proper : Op → Type 0
-Proper op = (opFields op .rd ≤ 31) × (opFields op .rs1 ≤ 31) × (opFields op .rs2 ≤ 31) × (cond (eqb (opFields op .op) 9) (opFields op .imm) 0 < 2 ^ 32)
+Proper op = (opFields op .rd ≤ 31) × (opFields op .rs1 ≤ 31) × (opFields op .rs2 ≤ 31) × (cond (eqb (opFields op .op) fallbackNumber) (opFields op .imm) 0 < 2 ^ 32)

@@ -14,6 +14,16 @@ abbrev pub bits64 : ℤ → ℕ
 bits64 (pos n) = n
 bits64 (negsuc n) = 2 ^ 64 - suc n
 
+-- the op numbers that other rules name: the two jumps, and Fallback, which is the last
+abbrev pub jalNumber : ℕ
+jalNumber = 7
+
+abbrev pub jalrNumber : ℕ
+jalrNumber = 8
+
+abbrev pub fallbackNumber : ℕ
+fallbackNumber = 9
+
 abbrev pub fields : ℕ → ℕ → ℕ → ℕ → ℕ → ℕ → OpRecord
 fields op kind rd rs1 rs2 imm = record { op = op; kind = kind; rd = rd; rs1 = rs1; rs2 = rs2; imm = imm }
 
@@ -26,9 +36,9 @@ opFields (AluReg kind rd rs1 rs2) = fields 3 (aluNumber kind) rd rs1 rs2 0
 opFields (Load kind rd rs1 imm) = fields 4 (loadNumber kind) rd rs1 0 (bits64 imm)
 opFields (Store kind rs1 rs2 imm) = fields 5 (storeNumber kind) 0 rs1 rs2 (bits64 imm)
 opFields (Branch kind rs1 rs2 offset) = fields 6 (branchNumber kind) 0 rs1 rs2 (bits64 offset)
-opFields (Jal rd offset) = fields 7 0 rd 0 0 (bits64 offset)
-opFields (Jalr rd rs1 imm) = fields 8 0 rd rs1 0 (bits64 imm)
-opFields (Fallback raw) = fields 9 0 0 0 0 raw
+opFields (Jal rd offset) = fields jalNumber 0 rd 0 0 (bits64 offset)
+opFields (Jalr rd rs1 imm) = fields jalrNumber 0 rd rs1 0 (bits64 imm)
+opFields (Fallback raw) = fields fallbackNumber 0 0 0 0 raw
 
 abbrev pub opBytes : OpRecord → ℕ → ℕ → List ℕ
 opBytes f ilen pcOff = f .op ∷ f .kind ∷ f .rd ∷ f .rs1 ∷ f .rs2 ∷ ilen ∷ (le 2 pcOff ++ le 8 (f .imm))

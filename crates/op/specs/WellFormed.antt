@@ -7,6 +7,7 @@ use lib.Dec.{eqb, leb}
 use lib.ListN.{getD}
 use Rattle.bits.specs.Bytes.{doublewordAt}
 use Rattle.bits.specs.Match.{Row, _⇒_, case}
+use Rattle.op.specs.Record.{jalNumber, jalrNumber, fallbackNumber}
 use Rattle.op.specs.declared.Limits.{Limits}
 
 abbrev pub atMost : ℕ → ℕ → ℕ → ℕ → ℕ → Limits
@@ -16,7 +17,7 @@ atMost kind rd rs1 rs2 imm = record { kind = kind; rd = rd; rs1 = rs1; rs2 = rs2
 abbrev pub any : ℕ
 any = 2 ^ 64 - 1
 
--- the most that an op's kind, rd, rs1, rs2 and immediate may be: 31 for a register, and 0 for what the op lacks
+-- the most that an op's kind, rd, rs1, rs2 and immediate may be, by its number: 31 for a register, and 0 for what the op lacks
 abbrev pub limitRows : List (Row Limits)
 limitRows =
     (0 ⇒ atMost 0 31 0 0 any)
@@ -26,8 +27,8 @@ limitRows =
     ∷ (4 ⇒ atMost 6 31 31 0 any)
     ∷ (5 ⇒ atMost 3 0 31 31 any)
     ∷ (6 ⇒ atMost 5 0 31 31 any)
-    ∷ (7 ⇒ atMost 0 31 0 0 any)
-    ∷ (8 ⇒ atMost 0 31 31 0 any)
+    ∷ (jalNumber ⇒ atMost 0 31 0 0 any)
+    ∷ (jalrNumber ⇒ atMost 0 31 31 0 any)
     ∷ []
 
 unfoldable pub limits : ℕ → Limits
@@ -39,7 +40,7 @@ within o most =
 
 -- two bytes or four, and four for Fallback
 abbrev pub ilenKnown : ℕ → ℕ → Bool
-ilenKnown op ilen = eqb ilen 4 || (eqb ilen 2 && not (eqb op 9))
+ilenKnown op ilen = eqb ilen 4 || (eqb ilen 2 && not (eqb op fallbackNumber))
 
 unfoldable pub opWellFormed : List ℕ → Bool
-opWellFormed o = leb (getD o 0 0) 9 && ilenKnown (getD o 0 0) (getD o 5 0) && within o (limits (getD o 0 0))
+opWellFormed o = leb (getD o 0 0) fallbackNumber && ilenKnown (getD o 0 0) (getD o 5 0) && within o (limits (getD o 0 0))

@@ -387,14 +387,21 @@ pub fn fields_of(op: Op) -> OpRecord
             rs2,
             offset,
         } => fields(6, branch_number(kind), 0, rs1, rs2, bits_of(offset)),
-        Op::Jal { rd, offset } => fields(7, 0, rd, 0, 0, bits_of(offset)),
-        Op::Jalr { rd, rs1, imm } => fields(8, 0, rd, rs1, 0, bits_of(imm)),
-        Op::Fallback { raw } => fields(9, 0, 0, 0, 0, raw as u64),
+        Op::Jal { rd, offset } => fields(OpRecord::JAL, 0, rd, 0, 0, bits_of(offset)),
+        Op::Jalr { rd, rs1, imm } => fields(OpRecord::JALR, 0, rd, rs1, 0, bits_of(imm)),
+        Op::Fallback { raw } => fields(OpRecord::FALLBACK, 0, 0, 0, 0, raw as u64),
     }
 }
 
 impl OpRecord {
     pub const LEN: usize = 16;
+
+    // Op numbers that other rules name; Fallback's is the last.
+    pub const JAL: u8 = 7;
+
+    pub const JALR: u8 = 8;
+
+    pub const FALLBACK: u8 = 9;
 
     pub fn bytes(self, ilen: u8, off: u16) -> [u8; 16]
         ensures { λ r. ⌜ r ≡ opBytes self ilen off ⌝ }
@@ -455,7 +462,7 @@ fn limits_of(op: u8) -> Limits
     requires { ⌜ op ≤ 9 ⌝ }
     ensures { λ r. ⌜ r ≡ limits op ⌝ }
 {
-    if op == 9 {
+    if op == OpRecord::FALLBACK {
         return Limits {
             kind: 0,
             rd: 0,
@@ -488,7 +495,7 @@ fn within(record: &[u8], most: Limits) -> bool
 fn ilen_known(op: u8, ilen: u8) -> bool
     ensures { λ r. ⌜ r ≡ ilenKnown op ilen ⌝ }
 {
-    (ilen == 4) | ((ilen == 2) & (op != 9))
+    (ilen == 4) | ((ilen == 2) & (op != OpRecord::FALLBACK))
 }
 
 // Whether sixteen bytes are a record of one op, wherever it stands.
@@ -497,7 +504,7 @@ pub fn op_well_formed(record: &[u8]) -> bool
     ensures { λ r. ⌜ r ≡ opWellFormed (now («record» .entry)) ⌝ }
 {
     let op = record[0];
-    if 9 < op {
+    if OpRecord::FALLBACK < op {
         return false;
     }
     if ilen_known(op, record[5]) {

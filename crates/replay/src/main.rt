@@ -23,18 +23,12 @@ struct Entry {
     value: u64,
 }
 
-fn wide(x: u8) -> u64
-    ensures { λ r. ⌜ r < 256 ⌝ }
-{
-    x as u64
-}
-
 fn parsed(s: &[u8]) -> Entry
     requires { ⌜ length (now s) ≡ 32 ⌝ }
 {
     Entry {
         tag: s[0],
-        number: wide(s[1]),
+        number: s[1] as u64,
         small: bits::halfword_at(s, 2) as u64,
         digest: bits::word_at(s, 4) as u64,
         a: bits::doubleword_at(s, 8),
@@ -48,7 +42,7 @@ fn with_byte(digest: u64, byte: u8) -> u64
     requires { ⌜ digest < 2 ^ 32 ⌝ }
     ensures { λ r. ⌜ r < 2 ^ 32 ⌝ }
 {
-    (digest * 257 + wide(byte) + 1) % 4_294_967_291
+    (digest * 257 + byte as u64 + 1) % 4_294_967_291
 }
 
 fn with_bytes(digest: u64, s: &[u8]) -> u64

@@ -16,9 +16,9 @@ use Rattle.store.specs.declared.Opened.the-variants.{Sound}
 use Rattle.store.proofs.Known.{opened-says}
 
 module _ (g : Geometry) (rec : List ℕ) where
-  pub place-long : (s : List ℕ) → opened s ≡ Sound g → length rec ≡ 1040 → length (placeFor g rec) ≡ g .size
+  pub place-long : (s : List ℕ) → opened s ≡ Sound g → length rec ≡ 1040 → length (placeFor g rec) ≡ g .stride
   unfolding placeFor
-  place-long s h l = l ∙ ap (λ (z : Geometry). z .size) (opened-says s g h .is)
+  place-long s h l = l ∙ ap (λ (z : Geometry). z .stride) (opened-says s g h .is)
 
   module _ (a : ℕ) (w : wellFormed rec a ≡ true) where
     pub place-named : doublewordAt (placeFor g rec) 0 ≡ a

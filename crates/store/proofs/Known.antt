@@ -13,7 +13,7 @@ use borrow.Author.Tests.{leb-true, eqb-true, le-leb, eq-eqb}
 use Rattle.bits.specs.Bytes.{doublewordAt}
 use Rattle.block.proofs.Places as block
 use Rattle.bits.proofs.Tests.{and-both, not-true}
-use Rattle.store.specs.Layout.{signature, inBounds, front, storeSize, geometry, stated, isStore, opened, Bounded, Fitting, holds, pageOf, slotOf, placeAt}
+use Rattle.store.specs.Layout.{signature, inBounds, front, storeLen, geometry, stated, isStore, opened, Bounded, Fitting, holds, memoryPage, slotOf, placeAt}
 use Rattle.store.specs.declared.Geometry.{Geometry}
 use Rattle.store.specs.declared.Opened.the-variants.{Sound, NotAStore}
 
@@ -31,7 +31,7 @@ signature-is e = omega arith
 pub bounds-are : (e base pages : ℕ) → inBounds e base pages ≡ true → Bounded (geometry e base pages)
 bounds-are e base pages h =
     let a = and-both (leb e 14) _ h in
-    let memory = block.geometry {size = 4096 * pages} {base = base} (a .1) in
+    let memory = block.good-memory {len = 4096 * pages} {base = base} (a .1) in
     record {
       few = leb-true _ _ (a .0);
       some = omega (arith, memory .least);
@@ -47,7 +47,7 @@ pub record Header (s : List ℕ) : Type 0 where
   pub long : 32 ≤ length s
   pub signed : doublewordAt s 0 ≡ doublewordAt (signature (getD s 6 0)) 0
   pub bounded : inBounds (getD s 6 0) (doublewordAt s 8) (doublewordAt s 16) ≡ true
-  pub size : length s ≡ storeSize (stated s)
+  pub exact : length s ≡ storeLen (stated s)
 
 pub header-is : (s : List ℕ) → isStore s ≡ true → Header s
 unfolding isStore
@@ -55,11 +55,11 @@ header-is s h =
     let a = and-both (leb 32 (length s)) _ h in
     let b = and-both (eqb (doublewordAt s 0) (doublewordAt (signature (getD s 6 0)) 0)) _ (a .1) in
     let c = and-both (inBounds (getD s 6 0) (doublewordAt s 8) (doublewordAt s 16)) _ (b .1) in
-    record { long = leb-true _ _ (a .0); signed = eqb-true _ _ (b .0); bounded = c .0; size = eqb-true _ _ (c .1) }
+    record { long = leb-true _ _ (a .0); signed = eqb-true _ _ (b .0); bounded = c .0; exact = eqb-true _ _ (c .1) }
 
 pub is-header : (s : List ℕ) → Header s → isStore s ≡ true
 unfolding isStore
-is-header s h = rw (le-leb 32 (length s) (h .long), eq-eqb _ _ (h .signed), h .bounded) (eq-eqb _ _ (h .size))
+is-header s h = rw (le-leb 32 (length s) (h .long), eq-eqb _ _ (h .signed), h .bounded) (eq-eqb _ _ (h .exact))
 
 pub opened-sound : (s : List ℕ) → Header s → opened s ≡ Sound (stated s)
 unfolding opened
@@ -83,7 +83,7 @@ opened-says s g h = go (isStore s) refl h
     go true e k =
         let q : stated s ≡ g = cc in
         let w = header-is s e in
-        subst (Known s) q (record { fitting = record { bounds = bounds-are _ _ _ (w .bounded); size = w .size }; head = w; is = refl })
+        subst (Known s) q (record { fitting = record { bounds = bounds-are _ _ _ (w .bounded); exact = w .exact }; head = w; is = refl })
     go false e k = absurd (let z : _≡_ {A = ℕ} 0 1 = cc in omega arith)
 
 pub slot-lt : (g : Geometry) (a : ℕ) → slotOf g a < 2 ^ g .e
@@ -93,18 +93,18 @@ pub slots-le : (g : Geometry) → Bounded g → 2 ^ g .e ≤ 16384
 slots-le g b = pow-mono (b .few)
 
 -- a product with a place's size stays small
-pub size-small : (g : Geometry) (i : ℕ) → Bounded g → i ≤ 2 ^ g .e → g .size * i ≤ 67108864
-size-small g i b h =
+pub stride-small : (g : Geometry) (i : ℕ) → Bounded g → i ≤ 2 ^ g .e → g .stride * i ≤ 67108864
+stride-small g i b h =
     let w = slots-le g b in
     let n : i ≤ 16384 = omega arith in
     mul-le-mul {n₂ = 4096} {m₂ = 16384} (b .small) n
 
 -- a place lies within the store, behind the bitmap
-pub place-fits : (g : Geometry) (s : List ℕ) (i : ℕ) → Fitting g s → i < 2 ^ g .e → placeAt g i + g .size ≤ length s
-place-fits g s i f h = let w = after (g .size) i (2 ^ g .e) h in omega (arith, f .size)
+pub place-fits : (g : Geometry) (s : List ℕ) (i : ℕ) → Fitting g s → i < 2 ^ g .e → placeAt g i + g .stride ≤ length s
+place-fits g s i f h = let w = after (g .stride) i (2 ^ g .e) h in omega (arith, f .exact)
 
 pub front-fits : (g : Geometry) (s : List ℕ) → Fitting g s → front (g .pages) ≤ length s
-front-fits g s f = omega (arith, f .size)
+front-fits g s f = omega (arith, f .exact)
 
 pub holds-are : (g : Geometry) (a : ℕ) → holds g a ≡ true → (g .base ≤ a) × (a < g .base + 4096 * g .pages)
 unfolding holds
@@ -114,7 +114,7 @@ pub are-held : (g : Geometry) (a : ℕ) → g .base ≤ a → a < g .base + 4096
 unfolding holds
 are-held g a l u = rw (le-leb (g .base) a l) (le-leb (a + 1) (g .base + 4096 * g .pages) (omega arith))
 
-pub page-lt : (g : Geometry) (a : ℕ) → holds g a ≡ true → pageOf g a < g .pages
+pub page-lt : (g : Geometry) (a : ℕ) → holds g a ≡ true → memoryPage g a < g .pages
 page-lt g a h = omega (arith, holds-are g a h)
 
 pub bit-fits : (g : Geometry) (s : List ℕ) (p : ℕ) → Fitting g s → p < g .pages → 32 + p / 8 < front (g .pages)

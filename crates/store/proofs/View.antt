@@ -18,7 +18,7 @@ use Rattle.bits.specs.Bits.{bit}
 use Rattle.bits.proofs.Bit.{bit-above}
 use Rattle.bits.specs.Bytes.{le, part, patch, doublewordAt}
 use Rattle.bits.proofs.Bytes.{length-le, length-patch, length-part, getD-part, part-same, part-before, part-behind, getD-before, getD-behind, doubleword-le, doubleword-same, doubleword-before}
-use Rattle.store.specs.Layout.{signature, header, inBounds, front, storeSize, geometry, stated, isStore, opened, Bounded, Fitting, placeAt, generationOf, bumped}
+use Rattle.store.specs.Layout.{signature, header, inBounds, front, storeLen, geometry, stated, isStore, opened, Bounded, Fitting, placeAt, generationOf, bumped}
 use Rattle.store.specs.Places.{pageBit, placeIn, putBit, withBit, emptyPlace, vacated, eachPlace, copies, blank}
 use Rattle.store.specs.declared.Geometry.{Geometry}
 use Rattle.store.specs.declared.Opened.{Opened}
@@ -38,7 +38,7 @@ zero-bit k = ne-eqb (bit 0 k) 1 (λ h. omega (arith, bit-above 0 0 k (lit< tt) (
 -- the header check reads the length and the first 24 bytes
 openedBy : ℕ → ℕ → ℕ → ℕ → ℕ → Opened
 openedBy n e t b p =
-    cond (leb 32 n && (eqb t (doublewordAt (signature e) 0) && (inBounds e b p && eqb n (storeSize (geometry e b p))))) (Sound (geometry e b p)) NotAStore
+    cond (leb 32 n && (eqb t (doublewordAt (signature e) 0) && (inBounds e b p && eqb n (storeLen (geometry e b p))))) (Sound (geometry e b p)) NotAStore
 
 opened-by : (s : List ℕ) → opened s ≡ openedBy (length s) (getD s 6 0) (doublewordAt s 0) (doublewordAt s 8) (doublewordAt s 16)
 unfolding opened isStore openedBy
@@ -69,7 +69,7 @@ module _ (s : List ℕ) (at : ℕ) (p : List ℕ) (f : at + length p ≤ length 
   bit-patch-high q h = rw (getD-before s at p f (32 + q / 8) h)
 
   pub place-patch-low : (g : Geometry) (i : ℕ) → at + length p ≤ front (g .pages) → placeIn g (patch s at p) i ≡ placeIn g s i
-  place-patch-low g i h = part-behind s at p (placeAt g i) (g .size) f (omega arith)
+  place-patch-low g i h = part-behind s at p (placeAt g i) (g .stride) f (omega arith)
 
 set-patch : (s : List ℕ) (i v : ℕ) → i < length s → set s i v ≡ patch s i (v ∷ [])
 unfolding patch
@@ -131,7 +131,7 @@ module _ (g : Geometry) (s : List ℕ) (f : Fitting g s) where
   place-bumped i = place-patch-low s 24 _ bump-fits g i (omega (arith, bump-room))
 
   -- a place is written
-  module _ (j : ℕ) (rec : List ℕ) (h : j < 2 ^ g .e) (l : length rec ≡ g .size) where
+  module _ (j : ℕ) (rec : List ℕ) (h : j < 2 ^ g .e) (l : length rec ≡ g .stride) where
     put-fits : placeAt g j + length rec ≤ length s
     put-fits = rw l (place-fits g s j f h)
 
@@ -154,17 +154,17 @@ module _ (g : Geometry) (s : List ℕ) (f : Fitting g s) where
     place-put i = go (eqb j i) refl
       where
         other : Dec (i < j) → (i ≡ j → ⊥) → placeIn g (patch s (placeAt g j) rec) i ≡ placeIn g s i
-        other (yes b) n = part-before s (placeAt g j) rec (placeAt g i) (g .size) put-fits (let w = after (g .size) i j b in omega arith)
-        other (no b) n = part-behind s (placeAt g j) rec (placeAt g i) (g .size) put-fits (let w = after (g .size) j i (omega arith) in omega arith)
+        other (yes b) n = part-before s (placeAt g j) rec (placeAt g i) (g .stride) put-fits (let w = after (g .stride) i j b in omega arith)
+        other (no b) n = part-behind s (placeAt g j) rec (placeAt g i) (g .stride) put-fits (let w = after (g .stride) j i (omega arith) in omega arith)
 
         go : (t : Bool) → eqb j i ≡ t → placeIn g (patch s (placeAt g j) rec) i ≡ cond t rec (placeIn g s i)
         go true e = rw (← eqb-true j i e) (ap (part (patch s (placeAt g j) rec) (placeAt g j)) (sym l) ∙ part-same s (placeAt g j) rec put-fits)
         go false e = other (decLt i j) (λ c. eqb-false j i e (sym c))
 
 -- a walk over all places with a function that keeps their length
-module _ (g : Geometry) (s : List ℕ) (f : Fitting g s) (make : List ℕ → List ℕ) (keeps : (p : List ℕ) → length p ≡ g .size → length (make p) ≡ g .size) where
+module _ (g : Geometry) (s : List ℕ) (f : Fitting g s) (make : List ℕ → List ℕ) (keeps : (p : List ℕ) → length p ≡ g .stride → length (make p) ≡ g .stride) where
   walked : ℕ → List ℕ
-  walked n = eachPlace make (front (g .pages)) (g .size) n s
+  walked n = eachPlace make (front (g .pages)) (g .stride) n s
 
   -- what is left after n places
   record Walked (n : ℕ) (z : List ℕ) : Type 0 where
@@ -184,7 +184,7 @@ module _ (g : Geometry) (s : List ℕ) (f : Fitting g s) (make : List ℕ → Li
 
   step : (n : ℕ) → n < 2 ^ g .e → (z : List ℕ) → Walked n z → Walked (suc n) (patch z (placeAt g n) (make (placeIn g z n)))
   step n h z w = record {
-    fits = record { bounds = f .bounds; size = length-put g z fz n p h l ∙ fz .size };
+    fits = record { bounds = f .bounds; exact = length-put g z fz n p h l ∙ fz .exact };
     sound = opened-put g z fz n p h l ∙ w .sound;
     age = generation-put g z fz n p h l ∙ w .age;
     bits = λ q b. bits-put g z fz n p h l q b ∙ w .bits q b;
@@ -198,8 +198,8 @@ module _ (g : Geometry) (s : List ℕ) (f : Fitting g s) (make : List ℕ → Li
       p : List ℕ
       p = make (placeIn g z n)
 
-      l : length p ≡ g .size
-      l = keeps (placeIn g z n) (length-part z (placeAt g n) (g .size) (place-fits g z n fz h))
+      l : length p ≡ g .stride
+      l = keeps (placeIn g z n) (length-part z (placeAt g n) (g .stride) (place-fits g z n fz h))
 
       one : (i : ℕ) (t : Bool) → eqb n i ≡ t → cond t p (placeIn g z i) ≡ cond (ltb i (suc n)) (make (placeIn g s i)) (placeIn g s i)
       one i true e =
@@ -215,27 +215,27 @@ module _ (g : Geometry) (s : List ℕ) (f : Fitting g s) (make : List ℕ → Li
   all : Walked (2 ^ g .e) (walked (2 ^ g .e))
   all = walk (2 ^ g .e) (omega arith)
 
-  pub fitting-each : Fitting g (eachPlace make (front (g .pages)) (g .size) (2 ^ g .e) s)
+  pub fitting-each : Fitting g (eachPlace make (front (g .pages)) (g .stride) (2 ^ g .e) s)
   unfolding walked
   fitting-each = all .fits
 
-  pub opened-each : opened (eachPlace make (front (g .pages)) (g .size) (2 ^ g .e) s) ≡ opened s
+  pub opened-each : opened (eachPlace make (front (g .pages)) (g .stride) (2 ^ g .e) s) ≡ opened s
   unfolding walked
   opened-each = all .sound
 
-  pub generation-each : generationOf (eachPlace make (front (g .pages)) (g .size) (2 ^ g .e) s) ≡ generationOf s
+  pub generation-each : generationOf (eachPlace make (front (g .pages)) (g .stride) (2 ^ g .e) s) ≡ generationOf s
   unfolding walked
   generation-each = all .age
 
-  pub bits-each : (q : ℕ) → q < g .pages → pageBit (eachPlace make (front (g .pages)) (g .size) (2 ^ g .e) s) q ≡ pageBit s q
+  pub bits-each : (q : ℕ) → q < g .pages → pageBit (eachPlace make (front (g .pages)) (g .stride) (2 ^ g .e) s) q ≡ pageBit s q
   unfolding walked
   bits-each = all .bits
 
-  pub front-each : part (eachPlace make (front (g .pages)) (g .size) (2 ^ g .e) s) 0 (front (g .pages)) ≡ part s 0 (front (g .pages))
+  pub front-each : part (eachPlace make (front (g .pages)) (g .stride) (2 ^ g .e) s) 0 (front (g .pages)) ≡ part s 0 (front (g .pages))
   unfolding walked
   front-each = all .fronts
 
-  pub place-each : (i : ℕ) → i < 2 ^ g .e → placeIn g (eachPlace make (front (g .pages)) (g .size) (2 ^ g .e) s) i ≡ make (placeIn g s i)
+  pub place-each : (i : ℕ) → i < 2 ^ g .e → placeIn g (eachPlace make (front (g .pages)) (g .stride) (2 ^ g .e) s) i ≡ make (placeIn g s i)
   unfolding walked
   place-each i h = all .places i ∙ rw (lt-ltb i (2 ^ g .e) h)
 
@@ -257,16 +257,16 @@ module _ (g : Geometry) (b : Bounded g) (h : List ℕ) (l : length h ≡ 32) whe
   zeros = replicate (front (g .pages) - 32) 0
 
   abbrev places : List ℕ
-  places = copies (2 ^ g .e) (emptyPlace (g .size))
+  places = copies (2 ^ g .e) (emptyPlace (g .stride))
 
   long : length zeros ≡ front (g .pages) - 32
   long = length-replicate {A = ℕ} (front (g .pages) - 32) 0
 
-  empty-long : length (emptyPlace (g .size)) ≡ g .size
-  empty-long = length-empty (g .size) (omega (arith, b .room))
+  empty-long : length (emptyPlace (g .stride)) ≡ g .stride
+  empty-long = length-empty (g .stride) (omega (arith, b .room))
 
   pub fitting-blank : Fitting g (h ++ blank g)
-  fitting-blank = record { bounds = b; size = simp (length-append, length-append) (omega (arith, long, length-copies (2 ^ g .e) (emptyPlace (g .size)) (g .size) empty-long)) }
+  fitting-blank = record { bounds = b; exact = simp (length-append, length-append) (omega (arith, long, length-copies (2 ^ g .e) (emptyPlace (g .stride)) (g .stride) empty-long)) }
 
   pub byte-blank : (k : ℕ) → k < 32 → getD (h ++ blank g) k 0 ≡ getD h k 0
   byte-blank k c = List·getD-append h (blank g) 0 k (omega arith)
@@ -279,13 +279,13 @@ module _ (g : Geometry) (b : Bounded g) (h : List ℕ) (l : length h ≡ 32) whe
       ∙ List·getD-append zeros places 0 (q / 8) (omega (arith, long)) ∙ getD-replicate (front (g .pages) - 32) (q / 8) 0 0 (omega arith) in
       rw byte (zero-bit (q % 8))
 
-  pub place-blank : (i : ℕ) → i < 2 ^ g .e → placeIn g (h ++ blank g) i ≡ emptyPlace (g .size)
+  pub place-blank : (i : ℕ) → i < 2 ^ g .e → placeIn g (h ++ blank g) i ≡ emptyPlace (g .stride)
   unfolding part
   place-blank i c =
-      ap (take (g .size))
-      (sym (drop-drop (g .size * i) (front (g .pages)) (h ++ blank g))
-      ∙ ap (drop (g .size * i)) (ap (drop (front (g .pages))) (sym (append-assoc h zeros places)) ∙ drop-at (h ++ zeros) places (front (g .pages)) (simp length-append (omega (arith, long)))))
-      ∙ copies-part (g .size) i (2 ^ g .e) (emptyPlace (g .size)) empty-long c
+      ap (take (g .stride))
+      (sym (drop-drop (g .stride * i) (front (g .pages)) (h ++ blank g))
+      ∙ ap (drop (g .stride * i)) (ap (drop (front (g .pages))) (sym (append-assoc h zeros places)) ∙ drop-at (h ++ zeros) places (front (g .pages)) (simp length-append (omega (arith, long)))))
+      ∙ copies-part (g .stride) i (2 ^ g .e) (emptyPlace (g .stride)) empty-long c
 
 -- a flush
 module _ (g : Geometry) (s : List ℕ) (f : Fitting g s) where
@@ -299,7 +299,7 @@ module _ (g : Geometry) (s : List ℕ) (f : Fitting g s) where
   kept-byte k h = byte-blank g (f .bounds) (take 32 s) kept-long k h ∙ getD-take 32 s k 0 h
 
   pub opened-flushed : opened (take 32 s ++ blank g) ≡ opened s
-  opened-flushed = opened-same s (take 32 s ++ blank g) (fitting-flushed .size ∙ sym (f .size)) (λ k h. kept-byte k (omega arith))
+  opened-flushed = opened-same s (take 32 s ++ blank g) (fitting-flushed .exact ∙ sym (f .exact)) (λ k h. kept-byte k (omega arith))
 
   pub generation-flushed : generationOf (take 32 s ++ blank g) ≡ generationOf s
   generation-flushed = same-word 24 (take 32 s ++ blank g) s (λ k h c. kept-byte k (omega arith))
@@ -307,7 +307,7 @@ module _ (g : Geometry) (s : List ℕ) (f : Fitting g s) where
   pub bits-flushed : (q : ℕ) → q < g .pages → pageBit (take 32 s ++ blank g) q ≡ false
   bits-flushed = bits-blank g (f .bounds) (take 32 s) kept-long
 
-  pub place-flushed : (i : ℕ) → i < 2 ^ g .e → placeIn g (take 32 s ++ blank g) i ≡ emptyPlace (g .size)
+  pub place-flushed : (i : ℕ) → i < 2 ^ g .e → placeIn g (take 32 s ++ blank g) i ≡ emptyPlace (g .stride)
   place-flushed = place-blank g (f .bounds) (take 32 s) kept-long
 
 -- a new store
@@ -345,7 +345,7 @@ module _ (e base pages : ℕ) (w : inBounds e base pages ≡ true) where
         long = let z = front-fits g made fits in omega arith;
         signed = refl;
         bounded = ap (λ (k : Geometry). inBounds (k .e) (k .base) (k .pages)) is ∙ w;
-        size = fits .size ∙ ap storeSize (sym is);
+        exact = fits .exact ∙ ap storeLen (sym is);
       }
 
   pub generation-made : generationOf (header (geometry e base pages) 1 ++ blank (geometry e base pages)) ≡ 1
@@ -361,7 +361,7 @@ module _ (e base pages : ℕ) (w : inBounds e base pages ≡ true) where
 -- stores of one geometry with the same front and the same places are the same
 module _ (g : Geometry) (s z : List ℕ) (f : Fitting g s) (d : Fitting g z) where
   pub store-ext : part s 0 (front (g .pages)) ≡ part z 0 (front (g .pages)) → ((i : ℕ) → i < 2 ^ g .e → placeIn g s i ≡ placeIn g z i) → s ≡ z
-  store-ext same places = ext-getD 0 s z (f .size ∙ sym (d .size)) (λ k h. go k h (decLt k first))
+  store-ext same places = ext-getD 0 s z (f .exact ∙ sym (d .exact)) (λ k h. go k h (decLt k first))
     where
       first : ℕ
       first = front (g .pages)
@@ -373,13 +373,13 @@ module _ (g : Geometry) (s z : List ℕ) (f : Fitting g s) (d : Fitting g z) whe
       go k h (yes b) = byte s 0 first k k b (omega arith) ∙ ap (λ (l : List ℕ). getD l k 0) same ∙ sym (byte z 0 first k k b (omega arith))
       go k h (no b) =
           let n = k - first in
-          let i = n / g .size in
-          let j = n % g .size in
-          let some : 0 < g .size = omega (arith, f .bounds .room) in
-          let hj : j < g .size = mod-lt n some in
-          let hi : i < 2 ^ g .e = div-lt-iff-lt-mul some .1 (rw (mul-comm (2 ^ g .e) (g .size)) (omega (arith, f .size))) in
-          let at : k ≡ placeAt g i + j = omega (arith, div-add-mod' n (g .size), mul-comm i (g .size)) in
-          byte s (placeAt g i) (g .size) j k hj at ∙ ap (λ (l : List ℕ). getD l j 0) (places i hi) ∙ sym (byte z (placeAt g i) (g .size) j k hj at)
+          let i = n / g .stride in
+          let j = n % g .stride in
+          let some : 0 < g .stride = omega (arith, f .bounds .room) in
+          let hj : j < g .stride = mod-lt n some in
+          let hi : i < 2 ^ g .e = div-lt-iff-lt-mul some .1 (rw (mul-comm (2 ^ g .e) (g .stride)) (omega (arith, f .exact))) in
+          let at : k ≡ placeAt g i + j = omega (arith, div-add-mod' n (g .stride), mul-comm i (g .stride)) in
+          byte s (placeAt g i) (g .stride) j k hj at ∙ ap (λ (l : List ℕ). getD l j 0) (places i hi) ∙ sym (byte z (placeAt g i) (g .stride) j k hj at)
 
 -- zeros behind the header, and then the address of an empty place for each
 module _ (g : Geometry) (s : List ℕ) (f : Fitting g s) where
@@ -404,21 +404,21 @@ module _ (g : Geometry) (s : List ℕ) (f : Fitting g s) where
 
   fitting-zeroed : Fitting g zeroed
   unfolding zeroed behind
-  fitting-zeroed = record { bounds = f .bounds; size = length-patch s 32 (replicate behind 0) zeros-fit ∙ f .size }
+  fitting-zeroed = record { bounds = f .bounds; exact = length-patch s 32 (replicate behind 0) zeros-fit ∙ f .exact }
 
   -- header and bitmap, and then zeros
-  zeroed-is : zeroed ≡ (take 32 s ++ replicate (first - 32) 0) ++ replicate (g .size * 2 ^ g .e) 0
+  zeroed-is : zeroed ≡ (take 32 s ++ replicate (first - 32) 0) ++ replicate (g .stride * 2 ^ g .e) 0
   unfolding zeroed behind first patch
   zeroed-is =
       rw (drop-of-length-le s none-left, append-nil)
-      (ap (λ (l : List ℕ). take 32 s ++ l) (ap (λ (n : ℕ). replicate {A = ℕ} n 0) split ∙ sym (replicate-append-replicate (first - 32) (g .size * 2 ^ g .e) 0))
-      ∙ sym (append-assoc (take 32 s) (replicate (first - 32) 0) (replicate (g .size * 2 ^ g .e) 0)))
+      (ap (λ (l : List ℕ). take 32 s ++ l) (ap (λ (n : ℕ). replicate {A = ℕ} n 0) split ∙ sym (replicate-append-replicate (first - 32) (g .stride * 2 ^ g .e) 0))
+      ∙ sym (append-assoc (take 32 s) (replicate (first - 32) 0) (replicate (g .stride * 2 ^ g .e) 0)))
     where
       none-left : length s ≤ 32 + length (replicate {A = ℕ} (length s - 32) 0)
       none-left = omega (arith, zeros-long, header-in)
 
-      split : length s - 32 ≡ first - 32 + g .size * 2 ^ g .e
-      split = omega (arith, f .size)
+      split : length s - 32 ≡ first - 32 + g .stride * 2 ^ g .e
+      split = omega (arith, f .exact)
 
   front-long : length (take 32 s ++ replicate {A = ℕ} (first - 32) 0) ≡ first
   unfolding first
@@ -428,33 +428,33 @@ module _ (g : Geometry) (s : List ℕ) (f : Fitting g s) where
   unfolding part
   front-of rest = take-at (take 32 s ++ replicate (first - 32) 0) rest first front-long
 
-  zero-place : (i : ℕ) → i < 2 ^ g .e → placeIn g zeroed i ≡ replicate (g .size) 0
+  zero-place : (i : ℕ) → i < 2 ^ g .e → placeIn g zeroed i ≡ replicate (g .stride) 0
   unfolding zeroed behind
-  zero-place i h = ext-getD 0 (placeIn g zeroed i) (replicate (g .size) 0) (long ∙ sym (length-replicate {A = ℕ} (g .size) 0)) (λ j c. byte j (omega (arith, long)))
+  zero-place i h = ext-getD 0 (placeIn g zeroed i) (replicate (g .stride) 0) (long ∙ sym (length-replicate {A = ℕ} (g .stride) 0)) (λ j c. byte j (omega (arith, long)))
     where
-      long : length (placeIn g zeroed i) ≡ g .size
-      long = length-part zeroed (placeAt g i) (g .size) (place-fits g zeroed i fitting-zeroed h)
+      long : length (placeIn g zeroed i) ≡ g .stride
+      long = length-part zeroed (placeAt g i) (g .stride) (place-fits g zeroed i fitting-zeroed h)
 
-      byte : (j : ℕ) → j < g .size → getD (placeIn g zeroed i) j 0 ≡ getD (replicate (g .size) 0) j 0
+      byte : (j : ℕ) → j < g .stride → getD (placeIn g zeroed i) j 0 ≡ getD (replicate (g .stride) 0) j 0
       byte j c =
           let k = placeAt g i + j in
           let at : k ≡ 32 + (k - 32) = omega arith in
-          let less : k - 32 < behind = let w = place-fits g zeroed i fitting-zeroed h in omega (arith, f .size, fitting-zeroed .size) in
-          getD-part zeroed (placeAt g i) (g .size) j c
+          let less : k - 32 < behind = let w = place-fits g zeroed i fitting-zeroed h in omega (arith, f .exact, fitting-zeroed .exact) in
+          getD-part zeroed (placeAt g i) (g .stride) j c
           ∙ ap (λ (n : ℕ). getD zeroed n 0) at
           ∙ sym (getD-part zeroed 32 behind (k - 32) less)
           ∙ ap (λ (l : List ℕ). getD l (k - 32) 0) (ap (part zeroed 32) (sym zeros-long) ∙ part-same s 32 (replicate behind 0) zeros-fit)
           ∙ getD-replicate behind (k - 32) 0 0 less
-          ∙ sym (getD-replicate (g .size) j 0 0 c)
+          ∙ sym (getD-replicate (g .stride) j 0 0 c)
 
-  keeps-size : (p : List ℕ) → length p ≡ g .size → length (vacated p) ≡ g .size
-  keeps-size p l = length-vacated p (omega (arith, f .bounds .room)) ∙ l
+  keeps-stride : (p : List ℕ) → length p ≡ g .stride → length (vacated p) ≡ g .stride
+  keeps-stride p l = length-vacated p (omega (arith, f .bounds .room)) ∙ l
 
-  pub wiped : eachPlace vacated (front (g .pages)) (g .size) (2 ^ g .e) (patch s 32 (replicate (length s - 32) 0)) ≡ take 32 s ++ blank g
+  pub wiped : eachPlace vacated (front (g .pages)) (g .stride) (2 ^ g .e) (patch s 32 (replicate (length s - 32) 0)) ≡ take 32 s ++ blank g
   unfolding zeroed first vacated
   wiped =
-      store-ext g (eachPlace vacated first (g .size) (2 ^ g .e) zeroed) (take 32 s ++ blank g) (fitting-each g zeroed fitting-zeroed vacated keeps-size) (fitting-flushed g s f)
-      (front-each g zeroed fitting-zeroed vacated keeps-size
-      ∙ ap (λ (l : List ℕ). part l 0 first) zeroed-is ∙ front-of (replicate (g .size * 2 ^ g .e) 0)
-      ∙ sym (ap (λ (l : List ℕ). part l 0 first) (sym (append-assoc (take 32 s) (replicate (first - 32) 0) (copies (2 ^ g .e) (emptyPlace (g .size))))) ∙ front-of (copies (2 ^ g .e) (emptyPlace (g .size)))))
-      (λ i h. place-each g zeroed fitting-zeroed vacated keeps-size i h ∙ ap vacated (zero-place i h) ∙ empty-made (g .size) (omega (arith, f .bounds .room)) ∙ sym (place-flushed g s f i h))
+      store-ext g (eachPlace vacated first (g .stride) (2 ^ g .e) zeroed) (take 32 s ++ blank g) (fitting-each g zeroed fitting-zeroed vacated keeps-stride) (fitting-flushed g s f)
+      (front-each g zeroed fitting-zeroed vacated keeps-stride
+      ∙ ap (λ (l : List ℕ). part l 0 first) zeroed-is ∙ front-of (replicate (g .stride * 2 ^ g .e) 0)
+      ∙ sym (ap (λ (l : List ℕ). part l 0 first) (sym (append-assoc (take 32 s) (replicate (first - 32) 0) (copies (2 ^ g .e) (emptyPlace (g .stride))))) ∙ front-of (copies (2 ^ g .e) (emptyPlace (g .stride)))))
+      (λ i h. place-each g zeroed fitting-zeroed vacated keeps-stride i h ∙ ap vacated (zero-place i h) ∙ empty-made (g .stride) (omega (arith, f .bounds .room)) ∙ sym (place-flushed g s f i h))

@@ -12,6 +12,22 @@ use Rattle.store.specs.declared.Geometry.{Geometry}
 use Rattle.store.specs.declared.Opened.{Opened}
 use Rattle.store.specs.declared.Opened.the-variants.{Sound, NotAStore}
 
+-- where e, the base, the page count and the generation stand in the header, and its length
+abbrev pub eAt : ℕ
+eAt = 6
+
+abbrev pub baseAt : ℕ
+baseAt = 8
+
+abbrev pub pagesAt : ℕ
+pagesAt = 16
+
+abbrev pub generationAt : ℕ
+generationAt = 24
+
+abbrev pub headLen : ℕ
+headLen = 32
+
 -- "VBC", a zero, version 1, e, a zero
 abbrev pub signature : ℕ → List ℕ
 signature e = 86 ∷ 66 ∷ 67 ∷ 0 ∷ 1 ∷ 0 ∷ e ∷ 0 ∷ []
@@ -25,22 +41,22 @@ inBounds e base pages = leb e 14 && goodMemory (4096 * pages) base
 
 -- where the places begin: behind the header, and eight bytes for each begun 64 pages
 abbrev pub front : ℕ → ℕ
-front pages = 32 + (pages + 63) / 64 * 8
+front pages = headLen + (pages + 63) / 64 * 8
 
-abbrev pub storeSize : Geometry → ℕ
-storeSize g = front (g .pages) + g .size * 2 ^ g .e
+abbrev pub storeLen : Geometry → ℕ
+storeLen g = front (g .pages) + g .stride * 2 ^ g .e
 
 -- the geometry that these numbers say; the places of version 1 have 1,040 bytes
 abbrev pub geometry : ℕ → ℕ → ℕ → Geometry
-geometry e base pages = record { e = e; base = base; pages = pages; size = 1040 }
+geometry e base pages = record { e = e; base = base; pages = pages; stride = 1040 }
 
 abbrev pub stated : List ℕ → Geometry
-stated s = geometry (getD s 6 0) (doublewordAt s 8) (doublewordAt s 16)
+stated s = geometry (getD s eAt 0) (doublewordAt s baseAt) (doublewordAt s pagesAt)
 
 unfoldable pub isStore : List ℕ → Bool
 isStore s =
-    leb 32 (length s) && (eqb (doublewordAt s 0) (doublewordAt (signature (getD s 6 0)) 0)
-    && (inBounds (getD s 6 0) (doublewordAt s 8) (doublewordAt s 16) && eqb (length s) (storeSize (stated s))))
+    leb headLen (length s) && (eqb (doublewordAt s 0) (doublewordAt (signature (getD s eAt 0)) 0)
+    && (inBounds (getD s eAt 0) (doublewordAt s baseAt) (doublewordAt s pagesAt) && eqb (length s) (storeLen (stated s))))
 
 -- the header check
 unfoldable pub opened : List ℕ → Opened
@@ -53,30 +69,30 @@ pub record Bounded (g : Geometry) : Type 0 where
   pub most : g .pages ≤ 65536
   pub aligned : g .base % 4096 ≡ 0
   pub below : g .base + 4096 * g .pages ≤ 2 ^ 56
-  pub room : 16 ≤ g .size
-  pub small : g .size ≤ 4096
+  pub room : 16 ≤ g .stride
+  pub small : g .stride ≤ 4096
 
 pub record Fitting (g : Geometry) (s : List ℕ) : Type 0 where
   pub bounds : Bounded g
-  pub size : length s ≡ storeSize g
+  pub exact : length s ≡ storeLen g
 
 -- an address lies in the store's memory; its page, counted from the base; its slot
 unfoldable pub holds : Geometry → ℕ → Bool
 holds g a = inMemory (4096 * g .pages) (g .base) a
 
-abbrev pub pageOf : Geometry → ℕ → ℕ
-pageOf g a = (a - g .base) / 4096
+abbrev pub memoryPage : Geometry → ℕ → ℕ
+memoryPage g a = (a - g .base) / 4096
 
 abbrev pub slotOf : Geometry → ℕ → ℕ
 slotOf g a = a / 2 % 2 ^ g .e
 
 -- where the place of slot i begins
 abbrev pub placeAt : Geometry → ℕ → ℕ
-placeAt g i = front (g .pages) + g .size * i
+placeAt g i = front (g .pages) + g .stride * i
 
 abbrev pub generationOf : List ℕ → ℕ
-generationOf s = doublewordAt s 24
+generationOf s = doublewordAt s generationAt
 
 -- the generation one up, wrapping
 unfoldable pub bumped : List ℕ → List ℕ
-bumped s = patch s 24 (le 8 ((generationOf s + 1) % 2 ^ 64))
+bumped s = patch s generationAt (le 8 ((generationOf s + 1) % 2 ^ 64))

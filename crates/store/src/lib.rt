@@ -5,11 +5,22 @@ ghost use mathlib.Core.List.{_++_};
 ghost use Prim.Native.Nat.{_+_, _-_, _*_, _/_, _^_, _≤_, _<_};
 ghost use lib.ListN.{length, take, replicate};
 ghost use Rattle.bits.specs.Bytes.{part, patch};
-ghost use Rattle.store.specs.Layout.{header, inBounds, front, storeSize, geometry, opened, Bounded, Fitting, holds, pageOf, slotOf, placeAt, bumped};
+ghost use Rattle.store.specs.Layout.{headLen, header, inBounds, front, storeLen, geometry, opened, Bounded, Fitting, holds, memoryPage, slotOf, placeAt, generationOf, bumped};
 ghost use Rattle.store.specs.Places.{pageBit, putBit, withBit, emptyPlace, emptied, vacated, eachPlace, blank};
 use block::MAX_PAGES;
 use block::PAGE;
 use block::Slot;
+
+// Where e, the base, the page count and the generation stand in the header, and its length.
+const E_AT: usize = 6;
+
+const BASE_AT: usize = 8;
+
+const PAGES_AT: usize = 16;
+
+const GENERATION_AT: usize = 24;
+
+const HEAD: usize = 32;
 
 // The header's first eight bytes as a number: "VBC", a zero, version 1; then e, and a zero.
 const SIGNATURE: u64 = 0x1_0043_4256;
@@ -21,7 +32,7 @@ pub struct Geometry {
     pub e: u64,
     pub base: u64,
     pub pages: u64,
-    pub size: usize,
+    pub stride: usize,
 }
 
 // What the header check finds.
@@ -52,7 +63,7 @@ impl Geometry {
             e,
             base,
             pages,
-            size: Slot::LEN,
+            stride: Slot::LEN,
         }
     }
 
@@ -68,15 +79,15 @@ impl Geometry {
         requires { ⌜ self .pages ≤ 65536 ⌝ }
         ensures { λ r. ⌜ (r ≡ front (self .pages)) × (r ≤ 8224) ⌝ }
     {
-        (32 + (self.pages + 63) / 64 * 8) as usize
+        HEAD + ((self.pages + 63) / 64 * 8) as usize
     }
 
     // The store's length.
-    pub fn store_size(self) -> usize
+    pub fn store_len(self) -> usize
         requires { ⌜ Bounded self ⌝ }
-        ensures { λ r. ⌜ r ≡ storeSize self ⌝ }
+        ensures { λ r. ⌜ r ≡ storeLen self ⌝ }
     {
-        self.front() + self.size * self.slots()
+        self.front() + self.stride * self.slots()
     }
 
     // Whether the address lies in the store's memory.
@@ -88,9 +99,9 @@ impl Geometry {
     }
 
     // The page of an address in memory, counted from the base.
-    pub fn page(self, address: u64) -> u64
+    pub fn memory_page(self, address: u64) -> u64
         requires { ⌜ holds self address ≡ true ⌝ }
-        ensures { λ r. ⌜ (r ≡ pageOf self address) × (r < self .pages) ⌝ }
+        ensures { λ r. ⌜ (r ≡ memoryPage self address) × (r < self .pages) ⌝ }
     {
         (address - self.base) / PAGE
     }
@@ -101,7 +112,7 @@ impl Geometry {
         ensures { λ r. ⌜ r ≡ placeAt self (slotOf self address) ⌝ }
     {
         let slot = address / 2 % self.slots() as u64;
-        self.front() + self.size * slot as usize
+        self.front() + self.stride * slot as usize
     }
 }
 
@@ -109,18 +120,18 @@ impl Geometry {
 pub fn open(store: &[u8]) -> Opened
     ensures { λ r. ⌜ r ≡ opened (now (store .entry)) ⌝ }
 {
-    if store.len() < 32 {
+    if store.len() < HEAD {
         return Opened::NotAStore;
     }
-    let e = store[6] as u64;
-    let base = bits::doubleword_at(store, 8);
-    let pages = bits::doubleword_at(store, 16);
+    let e = store[E_AT] as u64;
+    let base = bits::doubleword_at(store, BASE_AT);
+    let pages = bits::doubleword_at(store, PAGES_AT);
     if bits::doubleword_at(store, 0) != SIGNATURE + e * E_UNIT {
         return Opened::NotAStore;
     }
     if in_bounds(e, base, pages) {
         let g = Geometry::new(e, base, pages);
-        if store.len() == g.store_size() {
+        if store.len() == g.store_len() {
             Opened::Sound(g)
         } else {
             Opened::NotAStore
@@ -139,10 +150,10 @@ fn mask(k: u64) -> u8
 
 // Whether the page, counted from the base, has its bit set.
 pub fn page_bit(store: &[u8], page: u64) -> bool
-    requires { ⌜ 32 + page / 8 < length (now store) ⌝ }
+    requires { ⌜ headLen + page / 8 < length (now store) ⌝ }
     ensures { λ r. ⌜ r ≡ pageBit (now (store .entry)) page ⌝ }
 {
-    let i = (32 + page / 8) as usize;
+    let i = (HEAD as u64 + page / 8) as usize;
     store[i] / mask(page % 8) % 2 == 1
 }
 
@@ -156,20 +167,28 @@ fn put_bit(byte: u8, k: u64, on: bool) -> u8
 
 // The page's bit becomes `on`.
 pub fn set_bit(store: &mut [u8], page: u64, on: bool)
-    requires { ⌜ 32 + page / 8 < length (now store) ⌝ }
+    requires { ⌜ headLen + page / 8 < length (now store) ⌝ }
     ensures { λ _. ⌜ now (store .exit) ≡ withBit (now (store .entry)) page on ⌝ }
 {
-    let i = (32 + page / 8) as usize;
+    let i = (HEAD as u64 + page / 8) as usize;
     store[i] = put_bit(store[i], page % 8, on);
+}
+
+// How many insertions there were, wrapping.
+pub fn generation(store: &[u8]) -> u64
+    requires { ⌜ headLen ≤ length (now store) ⌝ }
+    ensures { λ r. ⌜ r ≡ generationOf (now (store .entry)) ⌝ }
+{
+    bits::doubleword_at(store, GENERATION_AT)
 }
 
 // The generation goes one up.
 pub fn bump(store: &mut [u8])
-    requires { ⌜ 32 ≤ length (now store) ⌝ }
+    requires { ⌜ headLen ≤ length (now store) ⌝ }
     ensures { λ _. ⌜ now (store .exit) ≡ bumped (now (store .entry)) ⌝ }
 {
-    let generation = bits::doubleword_at(store, 24);
-    bits::put_doubleword(store, 24, std::num::wrapping_add_u64(generation, 1));
+    let next = std::num::wrapping_add_u64(generation(store), 1);
+    bits::put_doubleword(store, GENERATION_AT, next);
 }
 
 fn empty(place: &mut [u8])
@@ -189,23 +208,23 @@ fn empty_if(place: &mut [u8], page: u64)
     }
 }
 
-fn empty_at(store: &mut [u8], at: usize, size: usize, page: u64)
-    requires { ⌜ (8 ≤ size) × (at + size ≤ length (now store)) ⌝ }
-    ensures { λ _. ⌜ now (store .exit) ≡ patch (now (store .entry)) at (emptied page (part (now (store .entry)) at size)) ⌝ }
+fn empty_at(store: &mut [u8], at: usize, stride: usize, page: u64)
+    requires { ⌜ (8 ≤ stride) × (at + stride ≤ length (now store)) ⌝ }
+    ensures { λ _. ⌜ now (store .exit) ≡ patch (now (store .entry)) at (emptied page (part (now (store .entry)) at stride)) ⌝ }
 {
-    empty_if(&mut store[at..at + size], page);
+    empty_if(&mut store[at..at + stride], page);
 }
 
 // Empties those of n places of `size` bytes from `first` on that have an address in the page, which is counted from address 0.
-pub fn empty_places(store: &mut [u8], first: usize, size: usize, n: usize, page: u64)
-    requires { ⌜ (8 ≤ size) × (first + size * n ≤ length (now store)) ⌝ }
-    ensures { λ _. ⌜ now (store .exit) ≡ eachPlace (emptied page) first size n (now (store .entry)) ⌝ }
+pub fn empty_places(store: &mut [u8], first: usize, stride: usize, n: usize, page: u64)
+    requires { ⌜ (8 ≤ stride) × (first + stride * n ≤ length (now store)) ⌝ }
+    ensures { λ _. ⌜ now (store .exit) ≡ eachPlace (emptied page) first stride n (now (store .entry)) ⌝ }
 {
     let mut i = 0;
     let mut at = first;
     while i < n {
-        empty_at(store, at, size, page);
-        at += size;
+        empty_at(store, at, stride, page);
+        at += stride;
         i += 1;
     }
 }
@@ -219,15 +238,15 @@ fn clear_from(store: &mut [u8], at: usize)
 }
 
 // The address of an empty place for each of n.
-fn vacate_places(store: &mut [u8], first: usize, size: usize, n: usize)
-    requires { ⌜ (8 ≤ size) × (first + size * n ≤ length (now store)) ⌝ }
-    ensures { λ _. ⌜ now (store .exit) ≡ eachPlace vacated first size n (now (store .entry)) ⌝ }
+fn vacate_places(store: &mut [u8], first: usize, stride: usize, n: usize)
+    requires { ⌜ (8 ≤ stride) × (first + stride * n ≤ length (now store)) ⌝ }
+    ensures { λ _. ⌜ now (store .exit) ≡ eachPlace vacated first stride n (now (store .entry)) ⌝ }
 {
     let mut i = 0;
     let mut at = first;
     while i < n {
         bits::put_doubleword(store, at, Slot::EMPTY);
-        at += size;
+        at += stride;
         i += 1;
     }
 }
@@ -235,19 +254,19 @@ fn vacate_places(store: &mut [u8], first: usize, size: usize, n: usize)
 // No bit set, all places empty; the header stays. Zeros go over all of it at once.
 pub fn wipe(store: &mut [u8], g: Geometry)
     requires { ⌜ Fitting g (now store) ⌝ }
-    ensures { λ _. ⌜ now (store .exit) ≡ take 32 (now (store .entry)) ++ blank g ⌝ }
+    ensures { λ _. ⌜ now (store .exit) ≡ take headLen (now (store .entry)) ++ blank g ⌝ }
 {
-    clear_from(store, 32);
-    vacate_places(store, g.front(), g.size, g.slots());
+    clear_from(store, HEAD);
+    vacate_places(store, g.front(), g.stride, g.slots());
 }
 
 // The header of a new store.
 pub fn put_header(store: &mut [u8], g: Geometry)
-    requires { ⌜ (32 ≤ length (now store)) × (g .e ≤ 14) ⌝ }
+    requires { ⌜ (headLen ≤ length (now store)) × (g .e ≤ 14) ⌝ }
     ensures { λ _. ⌜ now (store .exit) ≡ patch (now (store .entry)) 0 (header g 1) ⌝ }
 {
     bits::put_doubleword(store, 0, SIGNATURE + g.e * E_UNIT);
-    bits::put_doubleword(store, 8, g.base);
-    bits::put_doubleword(store, 16, g.pages);
-    bits::put_doubleword(store, 24, 1);
+    bits::put_doubleword(store, BASE_AT, g.base);
+    bits::put_doubleword(store, PAGES_AT, g.pages);
+    bits::put_doubleword(store, GENERATION_AT, 1);
 }

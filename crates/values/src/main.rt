@@ -2,16 +2,12 @@
 // A line of decoding shows a call's number and the lent bytes afterwards, which start as 170s; a line of the ALU the number and the value.
 use libc::STDOUT_FILENO;
 
-fn wide(x: u8) -> u64 {
-    x as u64
-}
-
 fn line(number: u64, lent: &[u8]) {
     io::print_decimal(STDOUT_FILENO, number);
     let mut i = 0;
     while i < lent.len() {
         io::write_all(STDOUT_FILENO, b" ");
-        io::print_decimal(STDOUT_FILENO, wide(lent[i]));
+        io::print_decimal(STDOUT_FILENO, lent[i] as u64);
         i += 1;
     }
     io::write_all(STDOUT_FILENO, b"\n");

@@ -8,7 +8,7 @@ use lib.Dec.{T, eqb}
 use borrow.Author.Tests.{ne-eqb}
 use Rattle.bits.specs.Bits.{bitsAt}
 use Rattle.bits.proofs.Every.{every, at}
-use Rattle.op.specs.Record.{opFields}
+use Rattle.op.specs.Record.{fallbackNumber, opFields}
 use Rattle.op.specs.declared.Op.{Op}
 use Rattle.op.specs.declared.Op.the-variants.{Fallback}
 use Rattle.op.specs.declared.Decoded.the-variants.{Some, None}
@@ -79,5 +79,5 @@ word-low w h =
     (at 128 (λ op. eqb (op % 4) 3 || blank (formBy op (funct3 w) (funct7 w) (rs2 w))) (blanks (funct3 w) (funct7 w) (rs2 w)) (opcode w) (omega arith)))
 
 -- so an op that a word is read as has a record that is well formed
-pub word-op : (w : ℕ) (op : Op) → rustWord w ≡ Some op → (eqb (opFields op .op) 9 ≡ false) × Proper op
+pub word-op : (w : ℕ) (op : Op) → rustWord w ≡ Some op → (eqb (opFields op .op) fallbackNumber ≡ false) × Proper op
 word-op w op = other-op (rustWord w) op (form-other w (formOf w))

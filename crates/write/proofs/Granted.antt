@@ -31,35 +31,35 @@ size-small n h =
     (λ c. decide n 8 (λ e. omega arith)
     (λ d. absurd (true-false h (rw (ne-eqb n 1 a, ne-eqb n 2 b, ne-eqb n 4 c, ne-eqb n 8 d)))))))
 
-pub record Granted (s : List ℕ) (size a n : ℕ) (g : Geometry) : Type 0 where
+pub record Granted (s : List ℕ) (len a n : ℕ) (g : Geometry) : Type 0 where
   pub sound : opened s ≡ Sound g
-  pub whole : size ≡ 4096 * g .pages
+  pub whole : len ≡ 4096 * g .pages
   pub some : 1 ≤ n
   pub few : n ≤ 8
   pub low : g .base ≤ a
   pub high : a + n ≤ g .base + 4096 * g .pages
 
-module _ (s : List ℕ) (size a n : ℕ) (g : Geometry) where
-  pub write-granted : writeJudged (opened s) size a n ≡ Accepted g → Granted s size a n g
+module _ (s : List ℕ) (len a n : ℕ) (g : Geometry) where
+  pub write-granted : writeJudged (opened s) len a n ≡ Accepted g → Granted s len a n g
   write-granted h = go (opened s) refl h
     where
-      facts : opened s ≡ Sound g → size ≡ 4096 * g .pages → goodSize n ≡ true → spans (4096 * g .pages) (g .base) a n ≡ true → Granted s size a n g
+      facts : opened s ≡ Sound g → len ≡ 4096 * g .pages → goodSize n ≡ true → spans (4096 * g .pages) (g .base) a n ≡ true → Granted s len a n g
       facts e w t i =
           let b = spanned (4096 * g .pages) (g .base) a n i in
           let r = size-small n t in
           record { sound = e; whole = w; some = r .0; few = r .1; low = b .0; high = b .1 }
 
-      tests : (k : Geometry) → opened s ≡ Sound k → (x y z : Bool) → eqb size (4096 * k .pages) ≡ x → goodSize n ≡ y → spans (4096 * k .pages) (k .base) a n ≡ z → cond x (cond y (cond z (Accepted k) (Rejected OutsideMemory)) (Rejected WrongWriteSize)) (Rejected BadGeometry) ≡ Accepted g → Granted s size a n g
+      tests : (k : Geometry) → opened s ≡ Sound k → (x y z : Bool) → eqb len (4096 * k .pages) ≡ x → goodSize n ≡ y → spans (4096 * k .pages) (k .base) a n ≡ z → cond x (cond y (cond z (Accepted k) (Rejected OutsideMemory)) (Rejected WrongWriteSize)) (Rejected BadGeometry) ≡ Accepted g → Granted s len a n g
       tests k e true true true ex ey ez q =
           let w : k ≡ g = cc in
-          subst (λ (z : Geometry). opened s ≡ Sound z → size ≡ 4096 * z .pages → spans (4096 * z .pages) (z .base) a n ≡ true → Granted s size a n g) (sym w)
+          subst (λ (z : Geometry). opened s ≡ Sound z → len ≡ 4096 * z .pages → spans (4096 * z .pages) (z .base) a n ≡ true → Granted s len a n g) (sym w)
           (λ p r i. facts p r ey i) e (eqb-true _ _ ex) ez
       tests k e true true false ex ey ez q = absurd (rejected q)
       tests k e true false z ex ey ez q = absurd (rejected q)
       tests k e false y z ex ey ez q = absurd (rejected q)
 
-      go : (o : Opened) → opened s ≡ o → writeJudged o size a n ≡ Accepted g → Granted s size a n g
-      go (Sound k) e q = tests k e (eqb size (4096 * k .pages)) (goodSize n) (spans (4096 * k .pages) (k .base) a n) refl refl refl q
+      go : (o : Opened) → opened s ≡ o → writeJudged o len a n ≡ Accepted g → Granted s len a n g
+      go (Sound k) e q = tests k e (eqb len (4096 * k .pages)) (goodSize n) (spans (4096 * k .pages) (k .base) a n) refl refl refl q
       go NotAStore e q = absurd (rejected q)
 
 pub report-small : (g : Geometry) (s : List ℕ) (a : ℕ) (r : Report) (t : List ℕ) → Bounded g → (r, t) ≡ noticedIn g s a → r .examined ≤ 16384

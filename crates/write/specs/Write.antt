@@ -24,23 +24,23 @@ abbrev pub goodSize : ℕ → Bool
 goodSize n = case n ((1 ⇒ true) ∷ (2 ⇒ true) ∷ (4 ⇒ true) ∷ (8 ⇒ true) ∷ []) false
 
 abbrev pub writeJudged : Opened → ℕ → ℕ → ℕ → Judged
-writeJudged (Sound g) size a n =
-    cond (eqb size (4096 * g .pages))
+writeJudged (Sound g) len a n =
+    cond (eqb len (4096 * g .pages))
     (cond (goodSize n) (cond (spans (4096 * g .pages) (g .base) a n) (Accepted g) (Rejected OutsideMemory)) (Rejected WrongWriteSize))
     (Rejected BadGeometry)
-writeJudged NotAStore size a n = Rejected NoStore
+writeJudged NotAStore len a n = Rejected NoStore
 
-abbrev pub andThen : Geometry → Report × List ℕ → ℕ → Report × List ℕ
-andThen g p b = (summed (p .0) (noticedIn g (p .1) b .0), noticedIn g (p .1) b .1)
+abbrev pub noticedAlso : Geometry → Report × List ℕ → ℕ → Report × List ℕ
+noticedAlso g p b = (summed (p .0) (noticedIn g (p .1) b .0), noticedIn g (p .1) b .1)
 
 -- a notice for each page of a write whose first byte is at a and whose last is at b
-abbrev pub touched : Geometry → List ℕ → ℕ → ℕ → Report × List ℕ
-touched g s a b = cond (eqb (a / 4096) (b / 4096)) (noticedIn g s a) (andThen g (noticedIn g s a) b)
+abbrev pub noticedPages : Geometry → List ℕ → ℕ → ℕ → Report × List ℕ
+noticedPages g s a b = cond (eqb (a / 4096) (b / 4096)) (noticedIn g s a) (noticedAlso g (noticedIn g s a) b)
 
-abbrev pub written : Judged → List ℕ → List ℕ → ℕ → ℕ → ℕ → ReportAnswer × List ℕ × List ℕ
-written (Accepted g) s m a n v =
-    (Reported (touched g s a (a + n - 1) .0), touched g s a (a + n - 1) .1, patch m (a - g .base) (le n v))
-written (Rejected why) s m a n v = (NotReported why, s, m)
+abbrev pub writeBy : Judged → List ℕ → List ℕ → ℕ → ℕ → ℕ → ReportAnswer × List ℕ × List ℕ
+writeBy (Accepted g) s m a n v =
+    (Reported (noticedPages g s a (a + n - 1) .0), noticedPages g s a (a + n - 1) .1, patch m (a - g .base) (le n v))
+writeBy (Rejected why) s m a n v = (NotReported why, s, m)
 
 abbrev pub writeCall : List ℕ → List ℕ → ℕ → ℕ → ℕ → ReportAnswer × List ℕ × List ℕ
-writeCall s m a n v = written (writeJudged (opened s) (length m) a n) s m a n v
+writeCall s m a n v = writeBy (writeJudged (opened s) (length m) a n) s m a n v

@@ -4,7 +4,7 @@ ghost use Prim.Native.Nat.{_+_, _≤_};
 ghost use lib.ListN.{length};
 ghost use Rattle.bits.specs.Bytes.{le, patch};
 ghost use Rattle.store.specs.Layout.{opened, Fitting};
-ghost use Rattle.write.specs.Write.{goodSize, writeJudged, touched, writeCall};
+ghost use Rattle.write.specs.Write.{goodSize, writeJudged, noticedPages, writeCall};
 use answer::Refusal;
 use block::PAGE;
 use cache::Judged;
@@ -25,13 +25,13 @@ fn good_size(n: u64) -> bool
     }
 }
 
-fn judge_write(store: &[u8], size: usize, address: u64, n: u64) -> Judged
-    ensures { λ r. ⌜ r ≡ writeJudged (opened (now (store .entry))) size address n ⌝ }
+fn judge_write(store: &[u8], len: usize, address: u64, n: u64) -> Judged
+    ensures { λ r. ⌜ r ≡ writeJudged (opened (now (store .entry))) len address n ⌝ }
 {
     let Opened::Sound(g) = store::open(store) else {
         return Judged::Rejected(Refusal::NoStore);
     };
-    if size as u64 != PAGE * g.pages {
+    if len as u64 != PAGE * g.pages {
         return Judged::Rejected(Refusal::BadGeometry);
     }
     if good_size(n) {
@@ -46,9 +46,9 @@ fn judge_write(store: &[u8], size: usize, address: u64, n: u64) -> Judged
 }
 
 // A notice for the page of the first byte, and one for that of the last where it is another.
-fn touch(store: &mut [u8], g: Geometry, address: u64, last: u64) -> Report
+fn notice_pages(store: &mut [u8], g: Geometry, address: u64, last: u64) -> Report
     requires { ⌜ Fitting g (now store) ⌝ }
-    ensures { λ r. ⌜ (r, now (store .exit)) ≡ touched g (now (store .entry)) address last ⌝ }
+    ensures { λ r. ⌜ (r, now (store .exit)) ≡ noticedPages g (now (store .entry)) address last ⌝ }
 {
     let first = cache::notice_in(store, g, address);
     if address / PAGE == last / PAGE {
@@ -78,7 +78,7 @@ pub fn guest_write(
 {
     match judge_write(store, memory.len(), address, n) {
         Judged::Accepted(g) => {
-            let report = touch(store, g, address, address + n - 1);
+            let report = notice_pages(store, g, address, address + n - 1);
             put_low(memory, (address - g.base) as usize, n as usize, value);
             ReportAnswer::Reported(report)
         }

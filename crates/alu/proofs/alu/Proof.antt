@@ -1,20 +1,27 @@
 -- `alu::alu` meets its contract: each arm is told its kind, and its calls say the Rust's operators.
 -- Assumes nothing.
-use mathlib.Core.Path.{ap, ap₂, _∙_}
+use mathlib.Core.Path.{_≡_, refl, ap, ap₂, _∙_}
+use mathlib.Core.Bool.{Bool, true, false, cond}
 use Prim.Native.Nat.{ℕ}
 use native.Mathlib.Nat.{le-of-lt}
 use native.Mathlib.Omega.{arith}
 use borrow.Author.Needs.{needs}
+use lib.Dec.{ltb}
 use lib.Count.{leading-le, trailing-le, ones-le}
 use mir.Syntax.{w64}
-use mir.Val.{SFits}
+use mir.Val.{boolByte, SFits}
 use Rattle.answer.specs.declared.Valued.the-variants.{Value}
 use Rattle.bits.proofs.Bit.{masked-lt}
 use Rattle.bits.proofs.Signed.{shr-back, wrapped}
 use Rattle.op.specs.Record.{bits64}
-use Rattle.alu.specs.Rust.{widen, minus}
+use Rattle.alu.specs.Rust.{less, widen, minus}
 use Rattle.alu.proofs.alu.Statement.{statement}
 use Rattle.alu.proofs.alu.Tie as tie
+
+-- a bool cast to a number
+cond-byte : (t : Bool) → boolByte t ≡ cond t 1 0
+cond-byte true = refl
+cond-byte false = refl
 
 pub alu-spec : {M : Type 1} → statement M
 alu-spec =
@@ -50,8 +57,14 @@ alu-spec =
     (λ c. rw (c .before .enum-told2 .given .1) (ap Value (wrapped 64 (c .wrapping-sub-u64 .result) _ _ (omega arith) (omega arith) (c .wrapping-sub-u64 .ensures))))
     (λ c. rw (c .enum-told3 .given .1))
     -- Slt
-    (λ c. rw (c .before .enum-told4 .given .1, c .less .ensures))
-    (λ c. rw (c .enum-told5 .given .1)) (λ c. rw (c .enum-told6 .given .1)) (λ c. rw (c .enum-told7 .given .1))
+    (λ c.
+    let a = c .before .before .before .args in
+    rw (c .before .enum-told4 .given .1, c .less .ensures) (ap Value (cond-byte (less (a .lhs) (a .rhs)))))
+    -- Sltu
+    (λ c.
+    let a = c .before .before .args in
+    rw (c .enum-told5 .given .1) (ap Value (cond-byte (ltb (a .lhs) (a .rhs)))))
+    (λ c. rw (c .enum-told6 .given .1)) (λ c. rw (c .enum-told7 .given .1))
     -- Sra
     (λ c.
     let ok : SFits w64 (c .before .as-i64 .result) = search needs in

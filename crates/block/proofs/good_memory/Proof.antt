@@ -18,4 +18,4 @@ good-memory-spec =
     (λ c. search needs)
     (λ c. simp (eq-eqb _ _ (c .before .before .before .if1 .left), eq-eqb _ _ (c .before .before .if2 .left), le-leb _ _ (c .before .if3 .left), lt-leb _ _ (c .if4 .taken)))
     (λ c. search needs)
-    (λ c. simp (eq-eqb _ _ (c .before .before .before .if1 .left), eq-eqb _ _ (c .before .before .if2 .left), le-leb _ _ (c .before .if3 .left), le-leb _ _ (c .if4 .left)) (room (c .before .before .before .before .args .base) (c .before .before .before .before .args .size) (2 ^ 56) (omega arith))))
+    (λ c. simp (eq-eqb _ _ (c .before .before .before .if1 .left), eq-eqb _ _ (c .before .before .if2 .left), le-leb _ _ (c .before .if3 .left), le-leb _ _ (c .if4 .left)) (room (c .before .before .before .before .args .base) (c .before .before .before .before .args .len) (2 ^ 56) (omega arith))))

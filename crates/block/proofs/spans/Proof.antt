@@ -14,7 +14,7 @@ spans-spec =
     (λ c. rw (lt-leb (c .before .args .base) (c .before .args .address) (c .if1 .taken)))
     (λ c.
     let a = c .before .before .args in
-    rw (le-leb (a .base) (a .address) (c .before .if1 .left), lt-leb (a .address + a .n) (a .base + a .size) (omega arith)))
+    rw (le-leb (a .base) (a .address) (c .before .if1 .left), lt-leb (a .address + a .n) (a .base + a .len) (omega arith)))
     (λ c.
     let a = c .before .before .args in
-    rw (le-leb (a .base) (a .address) (c .before .if1 .left)) (apart (a .address) (a .base) (a .size) (a .n) (c .before .if1 .left) (c .if2 .left))))
+    rw (le-leb (a .base) (a .address) (c .before .if1 .left)) (apart (a .address) (a .base) (a .len) (a .n) (c .before .if1 .left) (c .if2 .left))))

@@ -13,7 +13,7 @@ returned c =
     let walk = c .before .before in
     let front = walk .before .before in
     let set = front .before .before .before .before in
-    walk .empty-places .ensures ∙ rw (walk .before .slots .ensures .0, front .front .ensures .0, set .set-bit .ensures, set .before .page .ensures .0)
+    walk .empty-places .ensures ∙ rw (walk .before .slots .ensures .0, front .front .ensures .0, set .set-bit .ensures, set .before .memory-page .ensures .0)
 
 pub evict-spec : {M : Type 1} → statement M
 evict-spec =

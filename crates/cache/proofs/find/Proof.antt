@@ -9,7 +9,7 @@ use Rattle.store.specs.declared.Opened.{Opened}
 use Rattle.store.specs.declared.Opened.the-variants.{Sound}
 use Rattle.store.specs.Layout.{opened}
 use Rattle.store.specs.Layout.{Fitting}
-use Rattle.cache.specs.Calls.{found}
+use Rattle.cache.specs.Calls.{lookupBy}
 use Rattle.cache.proofs.Checks.{opened-fits, slot-fits}
 use Rattle.cache.specs.declared.LookupAnswer.the-variants.{Hit}
 use borrow.Author.Needs.{needs}
@@ -29,7 +29,7 @@ find-spec =
     (λ c κs. search needs) (λ c. search needs) (λ c. search needs)
     (λ c.
     let start = c .before .before .before .before in
-    sym (ap (λ (o : Opened). found o (start .args .store .now) (start .args .address)) (sym (c .before .before .«open» .ensures) ∙ c .enum-told .given .1)))
+    sym (ap (λ (o : Opened). lookupBy o (start .args .store .now) (start .args .address)) (sym (c .before .before .«open» .ensures) ∙ c .enum-told .given .1)))
     (λ c κs. fits c .bounds)
     (λ c κs. fits (c .before .before) .bounds)
     (λ c κs.
@@ -43,7 +43,7 @@ find-spec =
     let known = p .before .before .before in
     let a = known .before .before .before .before .before .args in
     let there = ap (doublewordAt (a .store .now)) (sym (p .place .ensures)) ∙ sym (c .before .doubleword-at .ensures) ∙ c .if2 .taken in
-    rw (good known, sym (p .before .before .holds .ensures) ∙ p .before .if1 .taken, eq-eqb _ _ there) (ap (λ (at : ℕ). Hit at (known .before .g .given .0 .0 .size)) (p .place .ensures)))
+    rw (good known, sym (p .before .before .holds .ensures) ∙ p .before .if1 .taken, eq-eqb _ _ there) (ap (λ (at : ℕ). Hit at (known .before .g .given .0 .0 .stride)) (p .place .ensures)))
     (λ c.
     let p = c .before .before in
     let known = p .before .before .before in

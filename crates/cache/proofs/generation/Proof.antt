@@ -17,5 +17,5 @@ generation-spec =
     let h = opened-says _ _ (sym (c .before .before .«open» .ensures) ∙ c .enum-told .given .1) .head .long in
     omega arith)
     (λ c. search needs)
-    (λ c. rw (sym (c .before .before .before .«open» .ensures) ∙ c .before .enum-told .given .1) (ap Value (c .doubleword-at .ensures)))
+    (λ c. rw (sym (c .before .before .before .«open» .ensures) ∙ c .before .enum-told .given .1) (ap Value (c .generation .ensures)))
     (λ c. rw (sym (c .before .before .«open» .ensures) ∙ c .enum-told2 .given .1)))

@@ -13,7 +13,7 @@ use Rattle.cache.proofs.insert_in.Statement.{statement}
 use Rattle.cache.proofs.insert_in.Tie as tie
 
 -- the place of the slot lies in the store
-fits : (c : tie.After-place) → c .place .result + c .before .before .before .args .g .size ≤ length (c .before .before .before .args .store .now)
+fits : (c : tie.After-place) → c .place .result + c .before .before .before .args .g .stride ≤ length (c .before .before .before .args .store .now)
 fits c =
     let start = c .before .before .before in
     let w = slot-fits (start .args .g) (start .args .store .now) (start .args .address) (start .pre .0) in
@@ -26,8 +26,8 @@ returned c =
     let set = bump .before .before .before .before in
     let place = set .before .before .before in
     let start = place .before .before .before in
-    put-back (bump .bump .last .0) (place .place .result) (start .args .g .size) _ (start .args .«record» .now) (c .before .before .write-record .ensures) (start .pre .1 .1)
-    ∙ rw (bump .bump .ensures, set .set-bit .ensures, set .before .page .ensures .0, place .place .ensures)
+    put-back (bump .bump .last .0) (place .place .result) (start .args .g .stride) _ (start .args .«record» .now) (c .before .before .write-record .ensures) (start .pre .1 .1)
+    ∙ rw (bump .bump .ensures, set .set-bit .ensures, set .before .memory-page .ensures .0, place .place .ensures)
 
 pub insert-in-spec : {M : Type 1} → statement M
 unfolding placeFor

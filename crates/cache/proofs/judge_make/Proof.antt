@@ -3,7 +3,7 @@
 use mathlib.Core.Path.{_≡_, sym, ap, _∙_}
 use mathlib.Core.Bool.{true}
 use borrow.Author.Tests.{eq-eqb, ne-eqb}
-use Rattle.store.specs.Layout.{inBounds, storeSize, geometry}
+use Rattle.store.specs.Layout.{inBounds, storeLen, geometry}
 use Rattle.store.proofs.Known.{bounds-are}
 use Rattle.cache.specs.declared.Judged.the-variants.{Accepted}
 use borrow.Author.Needs.{needs}
@@ -22,9 +22,9 @@ judge-make-spec =
     (λ c.
     let a = c .before .before .before .before .before .args in
     let new = c .before .before .new .ensures in
-    rw (within (c .before .before .before), eq-eqb (a .size) (storeSize (geometry (a .e) (a .base) (a .pages))) (c .if2 .taken ∙ c .before .store-size .ensures ∙ ap storeSize new)) (ap Accepted new))
+    rw (within (c .before .before .before), eq-eqb (a .len) (storeLen (geometry (a .e) (a .base) (a .pages))) (c .if2 .taken ∙ c .before .store-len .ensures ∙ ap storeLen new)) (ap Accepted new))
     (λ c.
     let a = c .before .before .before .before .before .args in
     let new = c .before .before .new .ensures in
-    rw (within (c .before .before .before), ne-eqb (a .size) (storeSize (geometry (a .e) (a .base) (a .pages))) (λ h. c .if2 .left (h ∙ ap storeSize (sym new) ∙ sym (c .before .store-size .ensures)))))
+    rw (within (c .before .before .before), ne-eqb (a .len) (storeLen (geometry (a .e) (a .base) (a .pages))) (λ h. c .if2 .left (h ∙ ap storeLen (sym new) ∙ sym (c .before .store-len .ensures)))))
     (λ c. rw (sym (c .before .in-bounds .ensures) ∙ c .if1 .left)))

@@ -6,7 +6,7 @@ use Prim.Native.Nat.{ℕ, _+_, _≤_}
 use lib.ListN.{length}
 use native.Mathlib.Nat.{add-sub-cancel-left}
 use Rattle.bits.specs.Bytes.{part}
-use Rattle.cache.specs.Calls.{shown}
+use Rattle.cache.specs.Answers.{lookupPart}
 use Rattle.cache.proofs.Checks.{hit-fits}
 use borrow.Author.Needs.{needs}
 use Rattle.cache.proofs.lookup.Statement.{statement}
@@ -24,7 +24,7 @@ returned c =
     let s = hit .before .before .before .before .args .store .now in
     let at = hit .at .given .0 .0 in
     ap (λ (n : ℕ). part s at n) (add-sub-cancel-left at (hit .at .given .0 .1 .0))
-    ∙ sym (ap (shown s) (sym (hit .before .before .find .ensures) ∙ hit .at .given .1))
+    ∙ sym (ap (lookupPart s) (sym (hit .before .before .find .ensures) ∙ hit .at .given .1))
 
 pub lookup-spec : {M : Type 1} → statement M
 lookup-spec =
@@ -38,4 +38,4 @@ lookup-spec =
     (λ c. returned c)
     (λ c.
     let start = c .before .before .before .before .before in
-    sym (ap (shown (start .args .store .now)) (sym (c .before .before .before .find .ensures) ∙ c .before .enum-told .given .1))))
+    sym (ap (lookupPart (start .args .store .now)) (sym (c .before .before .before .find .ensures) ∙ c .before .enum-told .given .1))))

@@ -15,5 +15,5 @@ watched-spec =
     (λ c κs. search needs)
     (λ c.
     let test = c .before .before in
-    rw (sym (test .before .holds .ensures) ∙ test .if1 .taken) (c .page-bit .ensures ∙ ap (pageBit _) (c .before .page .ensures .0)))
+    rw (sym (test .before .holds .ensures) ∙ test .if1 .taken) (c .page-bit .ensures ∙ ap (pageBit _) (c .before .memory-page .ensures .0)))
     (λ c. rw (sym (c .before .holds .ensures) ∙ c .if1 .left)))

@@ -6,7 +6,7 @@ use Prim.Native.Nat.{ℕ, _+_, _-_, _%_, _≤_, _<_}
 use native.Mathlib.Omega.{arith}
 use lib.ListN.{length, take, drop, length-take}
 use Rattle.answer.specs.declared.Answer.the-variants.{Done}
-use Rattle.block.proofs.Places.{Geometry, geometry, held, rest-is}
+use Rattle.block.proofs.Places.{GoodMemory, good-memory, held, rest-is}
 use Rattle.decode.specs.Readings.{rust}
 use Rattle.form.specs.Forming.{opsFrom}
 use Rattle.form.specs.Call.{formJudged, formedInto, formCall}
@@ -34,11 +34,11 @@ Address c = c .before .before .before .before .before .args .address
 judged : (c : Here) → formJudged (Size c) (Room c) (Base c) (Address c) ≡ Done
 judged c = sym (c .before .before .judge-form .ensures) ∙ c .enum-told .given .1
 
-inside : (c : Here) → (Base c ≤ Address c) × (Address c < Base c + Size c) × Geometry (Size c) (Base c) × (Room c ≡ 1040)
+inside : (c : Here) → (Base c ≤ Address c) × (Address c < Base c + Size c) × GoodMemory (Size c) (Base c) × (Room c ≡ 1040)
 inside c =
     let b = begun (Size c) (Room c) (Base c) (Address c) (judged c) in
     let h = held (Size c) (Base c) (Address c) (b .inner) in
-    (h .0, h .1, geometry (b .good), b .whole)
+    (h .0, h .1, good-memory (b .good), b .whole)
 
 pub form-spec : {M : Type 1} → statement M
 unfolding formCall

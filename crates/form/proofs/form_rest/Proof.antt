@@ -1,6 +1,9 @@
 -- `form::form_rest` meets its contract.
 -- Assumes nothing.
-use mathlib.Core.Path.{sym, _∙_}
+use mathlib.Core.Path.{sym, ap, _∙_}
+use mathlib.Core.List.{List}
+use Prim.Native.Nat.{ℕ}
+use Rattle.answer.specs.declared.Answer.the-variants.{Done}
 use Rattle.decode.specs.Readings.{rust}
 use Rattle.form.specs.Forming.{opsFrom}
 use Rattle.form.proofs.Seal.{refused, sealed}
@@ -18,13 +21,13 @@ form-rest-spec =
     let start = c .before .before .before .before .before .before .before in
     refused (start .args .address) (opsFrom rust (start .args .s .now) 64 0) (start .args .lent .now) (ops .last .1 .0) (sym (ops .ensures .counted) ∙ c .if1 .taken) (ops .ensures .written))
     (λ c. search needs) (λ c. search needs) (λ c. search needs) (λ c. search needs) (λ c. search needs) (λ c κs. search needs) (λ c. search needs)
-    (λ c. search needs) (λ c κs. search needs) (λ c. search needs) (λ c. search needs) (λ c. search needs) (λ c. search needs) (λ c κs. search needs)
-    (λ c. search needs)
+    (λ c. search needs) (λ c κs. search needs) (λ c. search needs)
     (λ c.
-    let made = c .before .before .before .before .before in
-    let filled = made .before .before .before in
+    let head = c .before .before in
+    let filled = head .before .before .before .before in
     let chosen = filled .before .before in
     let ops = chosen .before .before .before .form-ops in
     let start = chosen .before .before .before .before .before .before .before in
-    sealed (start .args .address) (opsFrom rust (start .args .s .now) 64 0) (start .args .lent .now) (ops .last .1 .0) (c .before .before .copy-all .last .1 .0) (filled .fill .last .0)
-    (ops .result .count) (ops .result .len) (chosen .if1 .left) (start .pre .1) (ops .ensures) (c .before .before .copy-all .ensures ∙ made .head-bytes .ensures) (filled .fill .ensures)))
+    ap (λ (s : List ℕ). (Done, s)) (head .put-head .ensures)
+    ∙ sealed (start .args .address) (opsFrom rust (start .args .s .now) 64 0) (start .args .lent .now) (ops .last .1 .0) (filled .fill .last .0)
+    (ops .result .count) (ops .result .len) (chosen .if1 .left) (start .pre .1) (ops .ensures) (filled .fill .ensures)))

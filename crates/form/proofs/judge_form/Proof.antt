@@ -8,7 +8,7 @@ use borrow.Author.Needs.{needs}
 use Rattle.form.proofs.judge_form.Statement.{statement}
 use Rattle.form.proofs.judge_form.Tie as tie
 
-good : (c : tie.Else1) → not (goodMemory (c .before .before .args .size) (c .before .before .args .base)) ≡ false
+good : (c : tie.Else1) → not (goodMemory (c .before .before .args .len) (c .before .before .args .base)) ≡ false
 good c = ap not (sym (c .before .good-memory .ensures)) ∙ c .if1 .left
 
 pub judge-form-spec : {M : Type 1} → statement M

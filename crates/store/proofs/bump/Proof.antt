@@ -10,7 +10,7 @@ returned : tie.Need-returns
 unfolding bumped
 returned c =
     let put = c .before .before in
-    put .put-doubleword .ensures ∙ rw (put .before .wrapping-add-u64 .ensures, put .before .before .before .doubleword-at .ensures)
+    put .put-doubleword .ensures ∙ rw (put .before .before .wrapping-add-u64 .ensures, put .before .before .before .generation .ensures)
 
 pub bump-spec : {M : Type 1} → statement M
 bump-spec =

@@ -16,10 +16,10 @@ unfolding part
 returned c =
     let a = c .before .before .before .before .before .args in
     let pre = c .before .before .before .before .before .pre in
-    let lent = part (a .store .now) (a .at) (a .size) in
-    let long = length-part (a .store .now) (a .at) (a .size) (pre .1) in
-    put-back (a .store .now) (a .at) (a .size) _ (emptied (a .page) lent)
-    (c .before .before .empty-if .ensures ∙ ap (λ (n : ℕ). emptied (a .page) (part (a .store .now) (a .at) n)) (add-sub-cancel-left (a .at) (a .size)))
+    let lent = part (a .store .now) (a .at) (a .stride) in
+    let long = length-part (a .store .now) (a .at) (a .stride) (pre .1) in
+    put-back (a .store .now) (a .at) (a .stride) _ (emptied (a .page) lent)
+    (c .before .before .empty-if .ensures ∙ ap (λ (n : ℕ). emptied (a .page) (part (a .store .now) (a .at) n)) (add-sub-cancel-left (a .at) (a .stride)))
     (length-emptied (a .page) lent (rw long (pre .0)) ∙ long)
 
 pub empty-at-spec : {M : Type 1} → statement M

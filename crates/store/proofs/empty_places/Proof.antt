@@ -12,10 +12,10 @@ use Rattle.store.proofs.empty_places.Statement.{statement}
 use Rattle.store.proofs.empty_places.Tie as tie
 
 abbrev Inv-loop : tie.InvT-loop
-Inv-loop store₀ first size n page i₀ at₀ store i at = Walking (emptied page) first size n store₀ store i at
+Inv-loop store₀ first stride n page i₀ at₀ store i at = Walking (emptied page) first stride n store₀ store i at
 
 abbrev μ-loop : tie.MeasureT-loop
-μ-loop store₀ first size n page i₀ at₀ store i at = n - i
+μ-loop store₀ first stride n page i₀ at₀ store i at = n - i
 
 turned : tie.Need-loop-again Inv-loop μ-loop
 unfolding eachPlace
@@ -23,7 +23,7 @@ turned c =
     let l = c .before .before .before .before .before in
     (omega arith, rw (add-one, mul-suc) (omega arith), c .before .before .empty-at .ensures ∙ rw (add-one, l .loop .inv .1, l .loop .inv .2), omega arith)
 
-room : (c : tie.In-loop Inv-loop μ-loop) → c .before .loop .at + c .before .before .before .args .size ≤ length (c .before .loop .store)
+room : (c : tie.In-loop Inv-loop μ-loop) → c .before .loop .at + c .before .before .before .args .stride ≤ length (c .before .loop .store)
 room c = walking-fits _ _ _ _ _ _ _ _ (c .before .loop .inv) (c .loop-test .taken) (c .before .before .before .pre .1)
 
 pub empty-places-spec : {M : Type 1} → statement M

@@ -3,7 +3,7 @@
 use native.Mathlib.Omega.{arith}
 use mathlib.Core.Path.{_≡_, sym, _∙_, ap}
 use lib.ListN.{getD}
-use Rattle.store.specs.Layout.{inBounds, storeSize, geometry, stated}
+use Rattle.store.specs.Layout.{inBounds, storeLen, geometry, stated}
 use Rattle.store.specs.declared.Geometry.{Geometry}
 use Rattle.bits.proofs.Tests.{true-false}
 use mathlib.Core.Bool.{Bool}
@@ -39,12 +39,12 @@ open-spec =
       long = omega arith;
       signed = sym (test .before .before .before .doubleword-at3 .ensures) ∙ test .before .before .if2 .left ∙ sym (signature-is _);
       bounded = ap within (sym (told read)) ∙ sym (test .before .in-bounds .ensures) ∙ test .if3 .taken;
-      size = c .if4 .taken ∙ c .before .store-size .ensures ∙ ap storeSize same;
+      exact = c .if4 .taken ∙ c .before .store-len .ensures ∙ ap storeLen same;
     })))
     (λ c.
     let test = c .before .before .before in
     let same = c .before .before .new .ensures ∙ told (test .before .before .before .before) in
-    sym (opened-not _ (λ h. c .if4 .left (h .size ∙ ap storeSize (sym same) ∙ sym (c .before .store-size .ensures)))))
+    sym (opened-not _ (λ h. c .if4 .left (h .exact ∙ ap storeLen (sym same) ∙ sym (c .before .store-len .ensures)))))
     (λ c.
     let read = c .before .before .before .before in
     sym (opened-not _ (λ h. true-false (c .before .in-bounds .ensures ∙ ap within (told read) ∙ h .bounded) (c .if3 .left)))))

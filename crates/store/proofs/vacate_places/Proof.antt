@@ -15,12 +15,12 @@ use Rattle.store.proofs.vacate_places.Statement.{statement}
 use Rattle.store.proofs.vacate_places.Tie as tie
 
 abbrev Inv-loop : tie.InvT-loop
-Inv-loop store₀ first size n i₀ at₀ store i at = Walking vacated first size n store₀ store i at
+Inv-loop store₀ first stride n i₀ at₀ store i at = Walking vacated first stride n store₀ store i at
 
 abbrev μ-loop : tie.MeasureT-loop
-μ-loop store₀ first size n i₀ at₀ store i at = n - i
+μ-loop store₀ first stride n i₀ at₀ store i at = n - i
 
-room : (c : tie.In-loop Inv-loop μ-loop) → c .before .loop .at + c .before .before .before .args .size ≤ length (c .before .loop .store)
+room : (c : tie.In-loop Inv-loop μ-loop) → c .before .loop .at + c .before .before .before .args .stride ≤ length (c .before .loop .store)
 room c = walking-fits _ _ _ _ _ _ _ _ (c .before .loop .inv) (c .loop-test .taken) (c .before .before .before .pre .1)
 
 -- one more place has the address
@@ -33,12 +33,12 @@ turned c =
     let a = l .before .before .args in
     let fits = room within in
     let address = le 8 0xFFFF_FFFF_FFFF_FFFF in
-    let so-far = eachPlace vacated (a .first) (a .size) (l .loop .i) (a .store .now) in (
+    let so-far = eachPlace vacated (a .first) (a .stride) (l .loop .i) (a .store .now) in (
       omega arith,
       rw (add-one, mul-suc) (omega arith),
       put .put-doubleword .ensures
           ∙ ap₂ (λ (t : List ℕ) (k : ℕ). patch t k address) (l .loop .inv .2) (l .loop .inv .1)
-          ∙ sym (patch-part so-far (a .first + a .size * l .loop .i) (a .size) address (rw (l .loop .inv .1, l .loop .inv .2) at fits) (rw length-le (l .before .before .pre .0)))
+          ∙ sym (patch-part so-far (a .first + a .stride * l .loop .i) (a .stride) address (rw (l .loop .inv .1, l .loop .inv .2) at fits) (rw length-le (l .before .before .pre .0)))
           ∙ rw add-one,
       omega arith,
     )

@@ -37,6 +37,6 @@ guest-write-spec =
     let a = known .before .before .before .before .before .before .before .args in
     let memory = patch (a .memory .now) (a .address - known .before .g .given .0 .0 .base) (le (a .n) (a .value)) in
     rw (sym (known .before .before .before .judge-write .ensures) ∙ known .before .g .given .1, put .put-low .ensures)
-    (ap (λ (p : Report × List ℕ). (Reported (p .0), p .1, memory)) (touch .touch .ensures)))
+    (ap (λ (p : Report × List ℕ). (Reported (p .0), p .1, memory)) (touch .notice-pages .ensures)))
     (λ c. search needs)
     (λ c. rw (sym (c .before .before .before .judge-write .ensures) ∙ c .before .why .given .1)))

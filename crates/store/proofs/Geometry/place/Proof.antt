@@ -2,16 +2,16 @@
 -- Assumes nothing.
 use native.Mathlib.Omega.{arith}
 use Prim.Native.Nat.{_*_, _/_, _%_, _^_, _≤_}
-use Rattle.store.proofs.Known.{slot-lt, size-small}
+use Rattle.store.proofs.Known.{slot-lt, stride-small}
 use borrow.Author.Needs.{needs}
 use Rattle.store.proofs.Geometry.place.Statement.{statement}
 use Rattle.store.proofs.Geometry.place.Tie as tie
 
-small : (c : tie.After-struct-known) → c .before .before .before .args .self .size * (c .before .before .before .args .address / 2 % c .before .before .slots .result) ≤ 67108864
+small : (c : tie.After-struct-known) → c .before .before .before .args .self .stride * (c .before .before .before .args .address / 2 % c .before .before .slots .result) ≤ 67108864
 small c =
     let g = c .before .before .before .args .self in
     let a = c .before .before .before .args .address in
-    rw (c .before .before .slots .ensures .0) (size-small g (a / 2 % 2 ^ g .e) (c .before .before .before .pre) (let h = slot-lt g a in omega arith))
+    rw (c .before .before .slots .ensures .0) (stride-small g (a / 2 % 2 ^ g .e) (c .before .before .before .pre) (let h = slot-lt g a in omega arith))
 
 pub place-spec : {M : Type 1} → statement M
 place-spec =

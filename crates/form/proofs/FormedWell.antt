@@ -19,30 +19,30 @@ use Rattle.op.specs.Proper.{Proper}
 use Rattle.op.proofs.Proper.{proper-well}
 use Rattle.word.proofs.Read.{word-op}
 use Rattle.halfword.proofs.Read.{half-op}
-use Rattle.block.specs.Memory.{goodMemory, inMemory, page, restOfPage}
+use Rattle.block.specs.Memory.{goodMemory, inMemory, pageBytes, restOfPage}
 use Rattle.block.specs.Record.{Insn, insn, opRecords, byteLen, blockRecord}
 use Rattle.block.specs.WellFormed.{allZero, jumps, opsWellFormed, wellFormed}
-use Rattle.block.proofs.Places.{Geometry, geometry, held}
+use Rattle.block.proofs.Places.{GoodMemory, good-memory, held}
 use Rattle.block.proofs.Records.{walk-record, record-well}
 use Rattle.block.proofs.Zeros.{zero-all}
 use Rattle.decode.specs.Readings.{rust}
-use Rattle.form.specs.Sound.{Sound}
+use Rattle.form.specs.ProperReading.{ProperReading}
 use Rattle.form.specs.Forming.{ilenAt, opAt, andThen, opsFrom, formed}
 use Rattle.form.proofs.Kept.{op-by, Within, within}
 
-pub rust-sound : Sound rust
-rust-sound = record { words = word-op; halves = half-op }
+pub rust-proper : ProperReading rust
+rust-proper = record { words = word-op; halves = half-op }
 
 abbrev Well : Decoded → ℕ → Type 0
 Well None ilen = Unit {0}
 Well (Some op) ilen = Proper op × (ilenKnown (opFields op .op) ilen ≡ true)
 
-module _ (r : Reading) (sound : Sound r) (s : List ℕ) (byte : (i : ℕ) → getD s i 0 < 256) where
+module _ (r : Reading) (proper : ProperReading r) (s : List ℕ) (byte : (i : ℕ) → getD s i 0 < 256) where
   op-well : (at : ℕ) → Well (opAt r s at) (ilenAt s at)
   op-well at =
       op-by Well (λ ilen. tt) r s at
-      (λ h op e. let o = sound .halves _ op e in (o .1, rw (o .0)))
-      (λ h op e. (sound .words _ op e .1, refl))
+      (λ h op e. let o = proper .halves _ op e in (o .1, rw (o .0)))
+      (λ h op e. (proper .words _ op e .1, refl))
       (λ h. (omega (arith, byte at, byte (at + 1), byte (at + 2), byte (at + 2 + 1)), refl))
 
 -- what holds of the ops from an offset on
@@ -83,12 +83,12 @@ module _ (s : List ℕ) (fits : length s ≤ 4096) (n at : ℕ) (inside : at ≤
   then-run None w i = no-more s fits n at inside (suc n)
   then-run (Some op) w i = op-run op w i (jumps (opFields op .op)) refl
 
-ops-run : (r : Reading) → Sound r → (s : List ℕ) → ((i : ℕ) → getD s i 0 < 256) → length s ≤ 4096 → (n at : ℕ) → at ≤ length s → Run s n at (opsFrom r s n at)
+ops-run : (r : Reading) → ProperReading r → (s : List ℕ) → ((i : ℕ) → getD s i 0 < 256) → length s ≤ 4096 → (n at : ℕ) → at ≤ length s → Run s n at (opsFrom r s n at)
 unfolding opsFrom
-ops-run r sound s byte fits zero at inside = no-more s fits 0 at inside 0
-ops-run r sound s byte fits (suc n) at inside =
+ops-run r proper s byte fits zero at inside = no-more s fits 0 at inside 0
+ops-run r proper s byte fits (suc n) at inside =
     let ilen = ilenAt s at in
-    then-run s fits n at inside ilen (opsFrom r s n (at + ilen)) (λ h. ops-run r sound s byte fits n (at + ilen) h) (opAt r s at) (op-well r sound s byte at) (within r s at)
+    then-run s fits n at inside ilen (opsFrom r s n (at + ilen)) (λ h. ops-run r proper s byte fits n (at + ilen) h) (opAt r s at) (op-well r proper s byte at) (within r s at)
 
 take-byte : (n : ℕ) (s : List ℕ) → ((i : ℕ) → getD s i 0 < 256) → (i : ℕ) → getD (take n s) i 0 < 256
 take-byte zero s byte i = omega arith
@@ -100,7 +100,7 @@ module _ (memory : List ℕ) (base address : ℕ) where
   rest-byte : ((i : ℕ) → getD memory i 0 < 256) → (i : ℕ) → getD (restOfPage memory base address) i 0 < 256
   rest-byte byte i =
       let start = (address - base) / 4096 * 4096 in
-      rw (getD-drop (address % 4096) (page memory base address) i 0)
+      rw (getD-drop (address % 4096) (pageBytes memory base address) i 0)
       (take-byte 4096 (drop start memory) (λ k. rw (getD-drop start memory k 0) (byte (start + k))) (address % 4096 + i))
 
   rest-short : length (restOfPage memory base address) ≤ 4096 - address % 4096
@@ -116,12 +116,12 @@ run-well s address ops run h some short =
     (ap (λ (len : ℕ). opsWellFormed (opRecords 0 ops ++ zeros) (length ops) 0 len) (sym sum) ∙ run .well zeros (zero-all (1024 - 16 * length ops)))
 
 -- the record of a block that forms is well formed for its address
-pub formed-well : (r : Reading) → Sound r → (memory : List ℕ) (base address : ℕ) → ((i : ℕ) → getD memory i 0 < 256)
+pub formed-well : (r : Reading) → ProperReading r → (memory : List ℕ) (base address : ℕ) → ((i : ℕ) → getD memory i 0 < 256)
     → goodMemory (length memory) base ≡ true → inMemory (length memory) base address ≡ true → (length (formed r memory base address) ≡ 0 → ⊥)
     → wellFormed (blockRecord address (formed r memory base address)) address ≡ true
-formed-well r sound memory base address byte good holds some =
+formed-well r proper memory base address byte good holds some =
     let s = restOfPage memory base address in
     let short = rest-short memory base address in
-    let g : Geometry (length memory) base = geometry good in
+    let g : GoodMemory (length memory) base = good-memory good in
     let h = held (length memory) base address holds in
-    run-well s address (formed r memory base address) (ops-run r sound s (rest-byte memory base address byte) (omega arith) 64 0 (omega arith)) (omega arith) some short
+    run-well s address (formed r memory base address) (ops-run r proper s (rest-byte memory base address byte) (omega arith) 64 0 (omega arith)) (omega arith) some short

@@ -1,11 +1,11 @@
--- `blocks::halfwords` ends, and stays within the page.
+-- `formvalues::halfwords` ends, and stays within the page.
 -- Assumes nothing.
 use mathlib.Core.Path.{_≡_}
 use Prim.Native.Nat.{_-_, _≤_}
 use lib.ListN.{length}
 use borrow.Author.Needs.{needs}
-use Rattle.blocks.proofs.halfwords.Statement.{statement}
-use Rattle.blocks.proofs.halfwords.Tie as tie
+use Rattle.formvalues.proofs.halfwords.Statement.{statement}
+use Rattle.formvalues.proofs.halfwords.Tie as tie
 
 abbrev Inv-loop : tie.InvT-loop
 Inv-loop page₀ i₀ page i = (i ≤ 65) × (length page ≡ 4096)

@@ -2,10 +2,6 @@
 // A line of the first part: the number, the record's address, count, byte_len, and the first op's number. A record starts as 170s.
 use lines::number;
 
-fn wide(x: u8) -> u64 {
-    x as u64
-}
-
 fn formed(page: &[u8], base: u64, address: u64) {
     let mut lent = [170u8; 1040];
     let answer = form::form(page, base, address, &mut lent);
@@ -13,7 +9,7 @@ fn formed(page: &[u8], base: u64, address: u64) {
     number(bits::doubleword_at(&lent, 0), b' ');
     number(bits::halfword_at(&lent, 8) as u64, b' ');
     number(bits::halfword_at(&lent, 10) as u64, b' ');
-    number(wide(lent[16]), b'\n');
+    number(lent[16] as u64, b'\n');
 }
 
 fn page_of(low: u8, high: u8) -> [u8; 4096] {
@@ -56,7 +52,7 @@ fn short() {
     let mut lent = [170u8; 1039];
     let answer = form::form(&page, 0, 0, &mut lent);
     number(answer.number(), b' ');
-    number(wide(lent[0]), b'\n');
+    number(lent[0] as u64, b'\n');
 }
 
 fn main() {

@@ -12,7 +12,7 @@ fn line(number: u64, value: u64) {
 // The length that Make asks for, and whether two addresses share a slot.
 fn size(e: u64, pages: u64) {
     if store::in_bounds(e, 0, pages) {
-        line(0, Geometry::new(e, 0, pages).store_size() as u64);
+        line(0, Geometry::new(e, 0, pages).store_len() as u64);
     } else {
         line(2, 0);
     }

@@ -1,11 +1,11 @@
--- `stores::share` calls within the bounds that it tested.
+-- `storevalues::share` calls within the bounds that it tested.
 -- Assumes nothing.
 use mathlib.Core.Path.{sym, _∙_}
 use Rattle.store.specs.Layout.{Bounded}
 use Rattle.store.proofs.Known.{bounds-are}
 use borrow.Author.Needs.{needs}
-use Rattle.stores.proofs.share.Statement.{statement}
-use Rattle.stores.proofs.share.Tie as tie
+use Rattle.storevalues.proofs.share.Statement.{statement}
+use Rattle.storevalues.proofs.share.Tie as tie
 
 bounds : (c : tie.After-new) → Bounded (c .new .result)
 bounds c = rw (c .new .ensures) (bounds-are _ _ _ (sym (c .before .before .in-bounds .ensures) ∙ c .before .if1 .taken))

@@ -1,4 +1,4 @@
--- `write::touch` meets its contract: one notice, or two that report together.
+-- `write::notice_pages` meets its contract: one notice, or two that report together.
 -- Assumes nothing.
 use mathlib.Core.Path.{ap, _∙_}
 use mathlib.Core.List.{List}
@@ -7,14 +7,14 @@ use native.Mathlib.Omega.{arith}
 use borrow.Author.Tests.{eq-eqb, ne-eqb}
 use Rattle.cache.specs.declared.Report.{Report}
 use Rattle.cache.specs.Calls.{summed}
-use Rattle.write.specs.Write.{andThen}
+use Rattle.write.specs.Write.{noticedAlso}
 use Rattle.write.proofs.Granted.{report-small}
 use borrow.Author.Needs.{needs}
-use Rattle.write.proofs.touch.Statement.{statement}
-use Rattle.write.proofs.touch.Tie as tie
+use Rattle.write.proofs.notice_pages.Statement.{statement}
+use Rattle.write.proofs.notice_pages.Tie as tie
 
-pub touch-spec : {M : Type 1} → statement M
-touch-spec =
+pub notice-pages-spec : {M : Type 1} → statement M
+notice-pages-spec =
     tie.close
     (tie.spec
     (λ c κs. search needs) (λ c. search needs)
@@ -37,4 +37,4 @@ touch-spec =
     rw (ne-eqb (a .address / 4096) (a .last / 4096) (two .before .before .if1 .left))
     (ap (λ (r : Report). (r, two .notice-in2 .last .0)) (c .sum .ensures)
     ∙ ap (λ (p : Report × List ℕ). (summed (one .notice-in .result) (p .0), p .1)) (two .notice-in2 .ensures)
-    ∙ ap (λ (p : Report × List ℕ). andThen (a .g) p (a .last)) (one .notice-in .ensures))))
+    ∙ ap (λ (p : Report × List ℕ). noticedAlso (a .g) p (a .last)) (one .notice-in .ensures))))
