@@ -1,4 +1,4 @@
--- Document 01's number for each answer, and the value beside it, which is 0 beside every number but 0.
+-- The number of each answer (docs/FORMATS.md), and the value beside it, which is 0 beside every number but 0.
 -- Assumes nothing.
 use Prim.Native.Nat.{ℕ}
 use Rattle.answer.specs.declared.Refusal.{Refusal}

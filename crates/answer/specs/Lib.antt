@@ -1,2 +1,2 @@
--- What answers mean, in document 01's numbers.
+-- What answers mean, as numbers.
 pub mod Answer

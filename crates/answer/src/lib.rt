@@ -1,4 +1,4 @@
-// What a call answers: that it is done, or why it is refused, with document 01's number for each. Every refusal is one of these.
+// What a call answers: that it is done, or why it is refused, with the number for each (docs/FORMATS.md, Answer numbers). Every refusal is one of these.
 ghost use mathlib.Core.Path.{_≡_};
 ghost use Rattle.answer.specs.Answer.{refusalNumber, answerNumber, valuedNumber, valuedValue};
 
@@ -28,7 +28,7 @@ pub enum Valued {
 }
 
 impl Refusal {
-    // Document 01's number.
+    // As C and Rust see it.
     pub fn number(self) -> u64
         ensures { λ r. ⌜ r ≡ refusalNumber self ⌝ }
     {

@@ -1,4 +1,4 @@
--- Guest memory as document 01 bounds it, by its length in bytes and its base.
+-- Guest memory within its bounds (docs/FORMATS.md), by its length in bytes and its base.
 -- Assumes nothing.
 use Prim.Native.Nat.{ℕ, _+_, _-_, _*_, _/_, _%_, _^_}
 use mathlib.Core.Bool.{Bool, _&&_}

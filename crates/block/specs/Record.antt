@@ -1,4 +1,4 @@
--- A block as document 01's record of 1,040 bytes: address, count of ops, byte_len, four zeros, 64 op records.
+-- A block as a record of 1,040 bytes: address, count of ops, byte_len, four zeros, 64 op records.
 -- Assumes nothing.
 use Prim.Native.Nat.{ℕ, _+_, _-_, _*_}
 use mathlib.Core.List.{List, [], _∷_, _++_}

@@ -1,4 +1,4 @@
--- Document 01's number and value for the cache's own answers. Beside every number but 0 the value is 0.
+-- The number and the value of the cache's own answers. Beside every number but 0 the value is 0.
 -- Assumes nothing.
 use Prim.Native.Nat.{ℕ}
 use mathlib.Core.List.{List, []}

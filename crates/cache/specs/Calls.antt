@@ -1,4 +1,4 @@
--- The cache's calls, in document 01's order of checks: the answer, and every byte of the store afterwards.
+-- The cache's calls, in their order of checks (docs/FORMATS.md): the answer, and every byte of the store afterwards.
 -- Assumes nothing.
 use Prim.Native.Nat.{ℕ, _+_, _/_, _^_}
 use mathlib.Core.Bool.{Bool, true, false, cond, _&&_}

@@ -1,4 +1,4 @@
-// Document 01's values on forming, through the public call, and three listings of one input.
+// The values on forming (docs/FORMATS.md, Values), through the public call, and three listings of one input.
 // A line of the first part: the number, the record's address, count, byte_len, and the first op's number. A record starts as 170s.
 use lines::number;
 

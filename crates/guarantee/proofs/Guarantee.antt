@@ -1,4 +1,4 @@
--- Demand 3. After any calls on a store that stands for a past, from the last accepted Make on: what each call answers, by the past that the calls tell and
+-- What any history guarantees. After any calls on a store that stands for a past, from the last accepted Make on: what each call answers, by the past that the calls tell and
 -- no byte of the store. For a store with no past, `unmade`, the first bytes are any.
 -- Assumes nothing.
 use mathlib.Core.Path.{_≡_, refl, sym, ap, subst, _∙_}
@@ -65,7 +65,7 @@ module _ (p : Past) (l : Lent) (start : Follows p (l .store)) (calls : List Call
       go (some r) k z = ap some (sym (shown-hit a r k .1))
       go none k z = absurd (omega (arith, z))
 
-  -- in demand 3's words: a lookup hits exactly when its address had an accepted insertion, and since came none in its slot, no notice or write in its page, and no flush; and it shows that record
+  -- in one sentence (docs/FORMATS.md, Hits): a lookup hits exactly when its address had an accepted insertion, and since came none in its slot, no notice or write in its page, and no flush; and it shows that record
   pub hit-lives : (a : ℕ) → lookupNumber (lookupCall (run calls l .store) a) ≡ 0 → Lives (slotOf g) pageOf h a (recordIn g (lookedUp (run calls l) a))
   hit-lives a e = shown-lives (slotOf g) pageOf h a _ (hit-shown a e)
 
@@ -90,7 +90,7 @@ module _ (p : Past) (l : Lent) (start : Follows p (l .store)) (calls : List Call
   pub notice-answers : (a : ℕ) → noticeCall (run calls l .store) a .0 ≡ Reported (report g h (pageOf a))
   notice-answers a = rw (stands .sound) (ap Reported (notice-reports g h (run calls l .store) stands a))
 
-  -- in document 01's words: every slot exactly when the page had an accepted insertion, and since came no notice or write in it, and no flush
+  -- in one sentence (docs/FORMATS.md, Slots examined): every slot exactly when the page had an accepted insertion, and since came no notice or write in it, and no flush
   pub examines-all : (a : ℕ) → Marked (slotOf g) pageOf h (pageOf a) → noticeCall (run calls l .store) a .0 ≡ Reported (record { examined = 2 ^ g .e })
   examines-all a m = notice-answers a ∙ rw (is-marked (slotOf g) pageOf h (pageOf a) m)
 

@@ -1,4 +1,4 @@
--- Demand 3: the simulation of a store by its past, and what follows.
+-- What any history guarantees: the simulation of a store by its past, and what follows.
 pub mod Simulation
 pub mod Lookup
 pub mod Run

@@ -1,4 +1,4 @@
--- Demand 3's second sentence: each accepted insertion held the block formed from the bytes then present; and what a store shows is what forms now.
+-- The premise of "Never stale" (docs/FORMATS.md): each accepted insertion held the block formed from the bytes then present; and what a store shows is what forms now.
 -- Assumes nothing.
 use Prim.Native.Nat.{ℕ}
 use mathlib.Core.Path.{_≡_}

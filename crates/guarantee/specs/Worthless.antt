@@ -1,4 +1,4 @@
--- Document 01's worthless programs, by what they answer to a history. No promise rests on these definitions: they are there to be shut out.
+-- The worthless programs of docs/FORMATS.md, by what they answer to a history. No promise rests on these definitions: they are there to be shut out.
 -- Assumes nothing.
 use Prim.Native.Nat.{ℕ, _^_}
 use mathlib.Core.Path.{_≡_}

@@ -1,1 +1,1 @@
-// Definitions and theorems alone: demand 3, the cache's own definitions followed through any calls from Make on.
+// Definitions and theorems alone: what any history guarantees (docs/FORMATS.md), the cache's own definitions followed through any calls from Make on.

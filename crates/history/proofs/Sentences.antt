@@ -1,4 +1,4 @@
--- The recursive definitions say what demand 3's sentences say.
+-- The recursive definitions say what the sentences say (docs/FORMATS.md, What any history guarantees).
 -- Assumes nothing.
 use mathlib.Core.Path.{_≡_, refl, ap, subst}
 use mathlib.Core.Bool.{Bool, true, false, cond, _&&_, _||_, not, false≢true}

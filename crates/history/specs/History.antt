@@ -56,7 +56,7 @@ module _ (slot page : ℕ → ℕ) where
   total n (touched p ∷ h) = examined n h p + total n h
   total n (flushed ∷ h) = total n h
 
-  -- the same in one sentence each: demand 3's, for whoever would rather read that
+  -- the same in one sentence each, as in docs/FORMATS.md, What any history guarantees
   abbrev pub Harmless : ℕ → Event → Type 0
   Harmless a (inserted b r) = slot b ≡ slot a → ⊥
   Harmless a (touched p) = p ≡ page a → ⊥

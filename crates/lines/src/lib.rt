@@ -1,4 +1,4 @@
-// Writes the blocks of one page to standard output, as document 01's listing has them.
+// Writes the blocks of one page to standard output, as docs/FORMATS.md, The listing, has them.
 ghost use mathlib.Core.Path.{_≡_};
 ghost use Prim.Native.Nat.{_<_};
 ghost use lib.ListN.{length};

@@ -1,4 +1,4 @@
--- What an op's kind and record are, in document 01's numbers.
+-- What an op's kind and record are, in the numbers of docs/FORMATS.md.
 pub mod Kinds
 pub mod Proper
 pub mod Reading

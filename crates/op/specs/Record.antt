@@ -1,4 +1,4 @@
--- An op as document 01's record of sixteen bytes. A field that the op lacks is 0.
+-- An op as a record of sixteen bytes (docs/FORMATS.md, The op record). A field that the op lacks is 0.
 -- Assumes nothing.
 use mathlib.Core.List.{List, _∷_, _++_}
 use Prim.Native.Nat.{ℕ, suc, _-_, _^_}

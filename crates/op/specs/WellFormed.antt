@@ -1,4 +1,4 @@
--- When one op record is well formed: document 01's rules about one op alone. A test of any sixteen bytes.
+-- When one op record is well formed: the rules about one op alone (docs/FORMATS.md, Well-formed records). A test of any sixteen bytes.
 -- Assumes nothing.
 use Prim.Native.Nat.{ℕ, _-_, _^_}
 use mathlib.Core.Bool.{Bool, _&&_, _||_, not}

@@ -1,4 +1,4 @@
-// Ops as the Rust has them, and an op as document 01's record of sixteen bytes. (block.rs, types)
+// Ops as the Rust has them, and an op as a record of sixteen bytes (docs/FORMATS.md). (block.rs, types)
 use KindAt::Known;
 use KindAt::Unknown;
 ghost use mathlib.Core.Path.{_≡_};

@@ -1,4 +1,4 @@
--- The cache store as document 01 lays it out: a header of 32 bytes, the page bitmap, 2 ^ e places.
+-- The cache store (docs/FORMATS.md, The store): a header of 32 bytes, the page bitmap, 2 ^ e places.
 -- Assumes nothing.
 use Prim.Native.Nat.{ℕ, _+_, _-_, _*_, _/_, _%_, _^_, _≤_}
 use mathlib.Core.Path.{_≡_}

@@ -27,7 +27,7 @@ const SIGNATURE: u64 = 0x1_0043_4256;
 
 const E_UNIT: u64 = 0x1_0000_0000_0000;
 
-// What a store's header says.
+// What a store's header says, and the bytes of a place.
 pub struct Geometry {
     pub e: u64,
     pub base: u64,
@@ -41,7 +41,7 @@ pub enum Opened {
     NotAStore,
 }
 
-// The bounds of document 01 on e and memory.
+// The bounds on e and memory.
 pub fn in_bounds(e: u64, base: u64, pages: u64) -> bool
     ensures { λ r. ⌜ r ≡ inBounds e base pages ⌝ }
 {

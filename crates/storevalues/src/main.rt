@@ -1,4 +1,4 @@
-// Document 01's sizes and values of the store, run through the calls. Each line shows a call's number and value.
+// The store's lengths and values (docs/FORMATS.md, Values), run through the calls. Each line shows a call's number and value.
 use libc::STDOUT_FILENO;
 use store::Geometry;
 

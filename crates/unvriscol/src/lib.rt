@@ -11,7 +11,7 @@ ghost use Rattle.cache.specs.Calls.{makeCall, lookupCall, insertCall, noticeCal
 ghost use Rattle.write.specs.Write.{writeCall};
 ghost use Rattle.unvriscol.specs.Seen.{both, seen, seenWithTwo};
 
-// Document 01's number, and the value beside it, which is 0 at every number but 0.
+// The answer's number (docs/FORMATS.md), and the value beside it, which is 0 at every number but 0.
 #[repr(C)]
 pub struct Numbered {
     pub number: u64,

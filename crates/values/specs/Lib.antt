@@ -1,2 +1,2 @@
--- Document 01's values marked P, as one table.
+-- The values marked P, as one table.
 pub mod Values

@@ -1,4 +1,4 @@
--- Document 01's values marked P: a question and the Rust reading's answer in each row.
+-- The values marked P (docs/FORMATS.md, Values): a question and the Rust reading's answer in each row.
 -- Assumes nothing.
 use Prim.Native.Nat.{ℕ}
 use mathlib.Core.List.{List, [], _∷_}

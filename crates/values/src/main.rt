@@ -1,4 +1,4 @@
-// Document 01's values: those marked P stand in specs/Values.antt as one table, proved; this program runs them through the public calls.
+// The values of docs/FORMATS.md: those marked P stand in specs/Values.antt as one table, proved; this program runs them through the public calls.
 // A line of decoding shows a call's number and the lent bytes afterwards, which start as 170s; a line of the ALU the number and the value.
 use libc::STDOUT_FILENO;
 
