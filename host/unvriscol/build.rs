@@ -109,7 +109,7 @@ fn named(here: &Path, name: &Path, sources: &[PathBuf]) -> PathBuf {
     }
     if let Some(outdated) = outdated(&place, sources) {
         println!(
-            "cargo:warning={outdated}; it is used, since {PLACE} names it: `{BUILD}` writes one of today's sources"
+            "cargo:warning={outdated}; it is used, since {PLACE} names it (`{BUILD}` writes one from the sources as they are)"
         );
     }
     place

@@ -55,7 +55,7 @@ fn main() -> ExitCode {
             ExitCode::SUCCESS
         }
         Err(why) => {
-            eprintln!("bench: {why} (--help says what there is)");
+            eprintln!("bench: {why}");
             ExitCode::from(2)
         }
     }
@@ -87,7 +87,7 @@ fn table(plan: &Plan, name: Option<&str>) -> Result<(), String> {
         return Ok(());
     }
     if let Some((name, image)) = name.zip(image) {
-        println!("image {name}: {} bytes\n", image.len());
+        println!("image {name}: length {}\n", image.len());
     }
     let unit = if plan.instructions {
         "instructions"
@@ -216,12 +216,13 @@ fn plan() -> Result<Option<Plan>, String> {
                 .push(words.next().ok_or("--image wants a file")?),
             "--once" => {
                 let mut number = || words.next()?.parse::<usize>().ok();
-                plan.once = number().zip(number().and_then(|side| Side::ALL.get(side).copied()));
+                let once = number().zip(number().and_then(|side| Side::ALL.get(side).copied()));
+                plan.once = Some(once.ok_or("--once wants a row and a side")?);
             }
             _ if names().iter().any(|name| name.contains(word.as_str())) => plan.rows.push(word),
             _ => {
                 return Err(format!(
-                    "{word} is no option and no row; a file is named by --image"
+                    "{word} is no option and no row; --help lists both, and --image names a file"
                 ));
             }
         }

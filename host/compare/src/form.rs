@@ -109,7 +109,7 @@ pub fn images(plan: &Plan, tally: &mut Tally) {
         let mut bytes = image.clone();
         bytes.resize(bytes.len().next_multiple_of(PAGE as usize), 0);
         let pages = bytes.len() / PAGE as usize;
-        println!("image {name}: {} bytes, {pages} pages", image.len());
+        println!("image {name}: length {}, pages {pages}", image.len());
         everywhere(
             &mut Plain {
                 bytes,

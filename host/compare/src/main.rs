@@ -74,7 +74,7 @@ fn main() -> ExitCode {
             return ExitCode::SUCCESS;
         }
         Err(why) => {
-            eprintln!("compare: {why} (--help says what there is)");
+            eprintln!("compare: {why}");
             return ExitCode::from(2);
         }
     };
@@ -131,7 +131,11 @@ fn plan() -> Result<Option<Plan>, String> {
             _ if PARTS.iter().any(|(name, _)| name.contains(word.as_str())) => {
                 plan.parts.push(word)
             }
-            _ => return Err(format!("{word} is no option and no part")),
+            _ => {
+                return Err(format!(
+                    "{word} is no option and no part; --help lists both"
+                ));
+            }
         }
     }
     if !plan.images.is_empty() && !plan.wants("forming") {

@@ -343,8 +343,9 @@ fn the_store() {
         header.numbers("UV_BLOCK_RECORD")
     );
     assert_eq!(
-        header.numbers("UV_SLOT")[0],
-        definitions.numbers("slotOf")[0]
+        header.numbers("UV_SLOT"),
+        // By 2, and into 2^e, which C has as 1 << e.
+        [definitions.numbers("slotOf")[0], 1]
     );
 }
 
@@ -403,9 +404,12 @@ fn the_functions() {
 #[test]
 fn the_version() {
     let header = Header::new();
-    let parts = ["MAJOR", "MINOR", "PATCH"].map(|part| {
-        let number = header.number(&format!("UV_VERSION_{part}"));
-        number.to_string()
+    let [major, minor, patch] = ["MAJOR", "MINOR", "PATCH"].map(|part| {
+        let name = format!("UV_VERSION_{part}");
+        header.number(&name)
     });
-    assert_eq!(parts.join("."), env!("CARGO_PKG_VERSION"));
+    let cargo = env!("CARGO_PKG_VERSION");
+    assert_eq!(format!("{major}.{minor}.{patch}"), cargo);
+    let one = [10_000, major, 100, minor, patch];
+    assert_eq!(header.numbers("UV_VERSION"), one);
 }
