@@ -164,12 +164,13 @@ impl Header {
             .collect()
     }
 
-    /// Where the fields of a record begin, by the macros that have the prefix.
-    fn offsets(&self, prefix: &str, fields: &[&str]) -> Vec<Named> {
-        fields
-            .iter()
-            .map(|field| (field.to_string(), self.number(&format!("{prefix}{field}"))))
-            .collect()
+    /// That each field of a record begins where its macro says.
+    fn hold(&self, fields: &[Named], names: &[(&str, &str)]) {
+        for (field, name) in names {
+            let here = fields.iter().find(|(there, _)| there == field);
+            let (_, at) = here.unwrap_or_else(|| panic!("no definition has {field}"));
+            assert_eq!(self.number(name), *at, "{name}");
+        }
     }
 }
 
@@ -204,15 +205,10 @@ fn answers() {
         .iter()
         .map(|(left, right)| (left.trim().to_owned(), definitions.numbers_of(right)))
         .collect();
-    let here = |number: fn(&Header, &str, Error) -> u64| {
-        refusals.map(|(name, in_c, error)| (name.to_owned(), vec![number(&header, in_c, error)]))
-    };
-    assert_eq!(
-        defined,
-        here(|header, in_c, _| header.number(in_c)),
-        "header"
-    );
-    assert_eq!(defined, here(|_, _, error| error.number()), "crate");
+    let here = refusals.map(|(name, in_c, _)| (name.to_owned(), vec![header.number(in_c)]));
+    assert_eq!(here, defined[..]);
+    let here = refusals.map(|(name, _, error)| (name.to_owned(), vec![error.number()]));
+    assert_eq!(here, defined[..], "crate");
     let (left, right) = &definitions.clauses("answerNumber")[0];
     assert_eq!(left.trim(), "Done");
     assert_eq!(header.numbers("UV_DONE"), definitions.numbers_of(right));
@@ -256,51 +252,38 @@ fn kinds() {
     );
 }
 
-/// The definitions' fields under the header's names, and behind them the record's end.
-fn renamed(fields: Vec<Named>, names: &[(&str, &str)]) -> Vec<Named> {
-    let name = |field: &str| names.iter().find(|(from, _)| *from == field);
-    fields
-        .into_iter()
-        .filter_map(|(field, at)| Some((name(&field)?.1.to_owned(), at)))
-        .collect()
-}
-
 #[test]
 fn the_op_record() {
     let (header, definitions) = (Header::new(), Definitions::new());
-    let fields = layout(&definitions.body("opBytes"));
     let names = [
-        ("op", "AT_OP"),
-        ("kind", "AT_KIND"),
-        ("rd", "AT_RD"),
-        ("rs1", "AT_RS1"),
-        ("rs2", "AT_RS2"),
-        ("ilen", "AT_ILEN"),
-        ("pcOff", "AT_PC_OFF"),
-        ("imm", "AT_IMM"),
-        ("end", "RECORD"),
+        ("op", "UV_OP_AT_OP"),
+        ("kind", "UV_OP_AT_KIND"),
+        ("rd", "UV_OP_AT_RD"),
+        ("rs1", "UV_OP_AT_RS1"),
+        ("rs2", "UV_OP_AT_RS2"),
+        ("ilen", "UV_OP_AT_ILEN"),
+        ("pcOff", "UV_OP_AT_PC_OFF"),
+        ("imm", "UV_OP_AT_IMM"),
+        ("end", "UV_OP_RECORD"),
     ];
-    let here = header.offsets("UV_OP_", &names.map(|(_, name)| name));
-    assert_eq!(here, renamed(fields, &names));
+    header.hold(&layout(&definitions.body("opBytes")), &names);
     assert_eq!(header.number("UV_OP_RECORD"), DecodedInsn::LEN as u64);
 }
 
 #[test]
 fn the_block_record() {
     let (header, definitions) = (Header::new(), Definitions::new());
-    let fields = layout(&definitions.body("headBytes"));
     let names = [
-        ("address", "ADDRESS"),
-        ("count", "COUNT"),
-        ("len", "BYTE_LEN"),
-        ("end", "OPS"),
+        ("address", "UV_BLOCK_AT_ADDRESS"),
+        ("count", "UV_BLOCK_AT_COUNT"),
+        ("len", "UV_BLOCK_AT_BYTE_LEN"),
+        ("end", "UV_BLOCK_AT_OPS"),
     ];
-    let here = header.offsets("UV_BLOCK_AT_", &names.map(|(_, name)| name));
-    assert_eq!(here, renamed(fields, &names));
+    header.hold(&layout(&definitions.body("headBytes")), &names);
 
+    let [address, count, len, ops] = names.map(|(_, name)| header.number(name));
     let [record, op, most, page] = ["UV_BLOCK_RECORD", "UV_OP_RECORD", "UV_MAX_OPS", "UV_PAGE"]
         .map(|name| header.number(name));
-    let [address, count, len, ops] = [0, 1, 2, 3].map(|at: usize| here[at].1);
     // Length, address, the four zeros, the count of ops, byte_len within the page, the ops.
     assert_eq!(
         definitions.numbers("wellFormed"),
@@ -316,37 +299,30 @@ fn the_block_record() {
 #[test]
 fn the_store() {
     let (header, definitions) = (Header::new(), Definitions::new());
+    // The header is the signature, with the version as its only 1, and fields behind it.
     let signature = definitions.body("signature");
-    let behind = definitions.body("header");
-    let (first, behind) = behind
-        .split_once("++")
-        .expect("fields behind the signature");
+    let whole = definitions.body("header");
+    let (first, behind) = whole.split_once("++").expect("fields");
     assert_eq!(words(first).next(), Some("signature"));
     let fields = layout(&format!("{signature} ++ {behind}"));
     let names = [
-        ("86", "AT_NAME"),
-        ("1", "AT_VERSION"),
-        ("e", "AT_E"),
-        ("base", "AT_BASE"),
-        ("pages", "AT_PAGES"),
-        ("generation", "AT_GENERATION"),
+        ("86", "UV_HEADER_AT_NAME"),
+        ("1", "UV_HEADER_AT_VERSION"),
+        ("e", "UV_HEADER_AT_E"),
+        ("base", "UV_HEADER_AT_BASE"),
+        ("pages", "UV_HEADER_AT_PAGES"),
+        ("generation", "UV_HEADER_AT_GENERATION"),
+        ("end", "UV_HEADER"),
     ];
-    let here = header.offsets("UV_HEADER_", &names.map(|(_, name)| name));
-    assert_eq!(here, renamed(fields.clone(), &names));
-    assert_eq!(header.number("UV_HEADER"), fields[fields.len() - 1].1);
-    let version = definitions.list("signature")[here[1].1 as usize].parse();
-    assert_eq!(version, Ok(header.number("UV_STORE_VERSION")));
+    header.hold(&fields, &names);
+    assert_eq!(header.number("UV_STORE_VERSION"), 1);
 
     assert_eq!(header.numbers("UV_FRONT"), definitions.numbers("front"));
-    assert_eq!(
-        definitions.numbers("geometry"),
-        header.numbers("UV_BLOCK_RECORD")
-    );
-    assert_eq!(
-        header.numbers("UV_SLOT"),
-        // By 2, and into 2^e, which C has as 1 << e.
-        [definitions.numbers("slotOf")[0], 1]
-    );
+    let record = header.numbers("UV_BLOCK_RECORD");
+    assert_eq!(record, definitions.numbers("geometry"));
+    // By 2, and into 2^e, which C has as 1 << e.
+    let slot = [definitions.numbers("slotOf")[0], 1];
+    assert_eq!(header.numbers("UV_SLOT"), slot);
 }
 
 #[test]
@@ -371,34 +347,21 @@ fn the_bounds() {
     );
 }
 
-/// The functions of a text that stand behind a word.
-fn functions<'a>(text: &'a str, behind: &str) -> Vec<&'a str> {
-    text.split(behind)
-        .skip(1)
-        .filter_map(|rest| rest.split_once('(')?.0.strip_prefix("uv_"))
+/// The C functions that a text declares, in their order.
+fn functions(text: &str) -> Vec<&str> {
+    text.split("uv_")
+        .filter_map(|rest| Some(rest.split_once('(')?.0))
+        .filter(|name| name.chars().all(|c| c.is_ascii_lowercase() || c == '_'))
         .collect()
 }
 
 #[test]
 fn the_functions() {
-    let header = Header::new().text;
-    let (rattle, door) = (
-        read("crates/unvriscol/src/lib.rt"),
-        read("host/unvriscol/src/door.rs"),
-    );
-    let proved = functions(&rattle, "pub extern \"C\" fn ");
+    let rattle = read("crates/unvriscol/src/lib.rt");
+    let proved = functions(&rattle);
     assert_eq!(proved.len(), 11);
-    assert_eq!(
-        functions(&header, "\nuint64_t ").len() + functions(&header, "\nuv_answer ").len(),
-        proved.len()
-    );
-    for name in &proved {
-        assert!(
-            header.contains(&format!(" uv_{name}(")),
-            "the header has no uv_{name}"
-        );
-    }
-    assert_eq!(functions(&door, "fn "), proved);
+    assert_eq!(functions(&Header::new().text), proved);
+    assert_eq!(functions(&read("host/unvriscol/src/door.rs")), proved);
 }
 
 #[test]
