@@ -99,7 +99,7 @@ static void round_of_the_cache(void) {
 }
 
 int main(void) {
-    number("version", UV_VERSION);
+    number("version", UNVRISCOL_VERSION);
     number("bytes of the longest store", UV_STORE(UV_MAX_E, UV_MAX_PAGES));
     decode_and_compute();
     round_of_the_cache();

@@ -20,10 +20,10 @@
 #include <stdint.h>
 
 /* This header's version, as one number that grows: 100 is 0.1.0. */
-#define UV_VERSION_MAJOR 0
-#define UV_VERSION_MINOR 1
-#define UV_VERSION_PATCH 0
-#define UV_VERSION (10000 * UV_VERSION_MAJOR + 100 * UV_VERSION_MINOR + UV_VERSION_PATCH)
+#define UNVRISCOL_VERSION_MAJOR 0
+#define UNVRISCOL_VERSION_MINOR 1
+#define UNVRISCOL_VERSION_PATCH 0
+#define UNVRISCOL_VERSION (10000 * UNVRISCOL_VERSION_MAJOR + 100 * UNVRISCOL_VERSION_MINOR + UNVRISCOL_VERSION_PATCH)
 
 #ifdef __cplusplus
 extern "C" {

@@ -368,11 +368,11 @@ fn the_functions() {
 fn the_version() {
     let header = Header::new();
     let [major, minor, patch] = ["MAJOR", "MINOR", "PATCH"].map(|part| {
-        let name = format!("UV_VERSION_{part}");
+        let name = format!("UNVRISCOL_VERSION_{part}");
         header.number(&name)
     });
     let cargo = env!("CARGO_PKG_VERSION");
     assert_eq!(format!("{major}.{minor}.{patch}"), cargo);
     let one = [10_000, major, 100, minor, patch];
-    assert_eq!(header.numbers("UV_VERSION"), one);
+    assert_eq!(header.numbers("UNVRISCOL_VERSION"), one);
 }
