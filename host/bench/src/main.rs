@@ -7,7 +7,7 @@
 mod cache;
 mod work;
 
-use oracle::made;
+use oracle::made::{Given, given};
 use std::hint::black_box;
 use std::process::{Command, ExitCode};
 use std::time::Instant;
@@ -30,7 +30,7 @@ const ROUNDS: usize = 300;
 
 #[derive(Default)]
 struct Plan {
-    images: Vec<String>,
+    images: Vec<Given>,
     /// The rows to time, by words of their names; all where there is none.
     rows: Vec<String>,
     instructions: bool,
@@ -71,23 +71,22 @@ fn tables(plan: &Plan) -> Result<(), String> {
     if plan.images.is_empty() {
         return table(plan, None);
     }
-    plan.images
-        .iter()
-        .try_for_each(|name| table(plan, Some(name)))
+    for image in &plan.images {
+        println!("image {}: length {}\n", image.0, image.1.len());
+        table(plan, Some(image))?;
+        println!();
+    }
+    Ok(())
 }
 
 /// The table for an image, or for what is made where there is none.
-fn table(plan: &Plan, name: Option<&str>) -> Result<(), String> {
-    let image = name.map(made::given).transpose()?;
-    let mut rows = work::rows(image.as_deref());
+fn table(plan: &Plan, image: Option<&Given>) -> Result<(), String> {
+    let mut rows = work::rows(image.map(|(_, bytes)| &bytes[..]));
     if let Some((row, side)) = plan.once {
         let calls = &mut *rows.get_mut(row).ok_or("no such row")?.calls;
         calls.prepare(side);
         bench_measured(calls, side);
         return Ok(());
-    }
-    if let Some((name, image)) = name.zip(image) {
-        println!("image {name}: length {}\n", image.len());
     }
     let unit = if plan.instructions {
         "instructions"
@@ -107,13 +106,12 @@ fn table(plan: &Plan, name: Option<&str>) -> Result<(), String> {
             continue;
         }
         let costs = if plan.instructions {
-            counted(at, work, name)?
+            counted(at, work, image)?
         } else {
             timed(work)
         };
         println!("{}", line(work, costs));
     }
-    println!();
     Ok(())
 }
 
@@ -179,7 +177,7 @@ fn timed(work: &mut Work) -> Costs {
 }
 
 /// Instructions for one pass on each side, counted by callgrind on this program itself.
-fn counted(row: usize, work: &Work, image: Option<&str>) -> Result<Costs, String> {
+fn counted(row: usize, work: &Work, image: Option<&Given>) -> Result<Costs, String> {
     let mut counts = [None; 3];
     for &side in work.sides {
         let run = Command::new("valgrind")
@@ -190,7 +188,7 @@ fn counted(row: usize, work: &Work, image: Option<&str>) -> Result<Costs, String
             ])
             .arg(std::env::current_exe().map_err(|error| error.to_string())?)
             .args(["--once", &row.to_string(), &(side as usize).to_string()])
-            .args(image.map(|name| ["--image", name]).into_iter().flatten())
+            .args(image.iter().flat_map(|(name, _)| ["--image", name]))
             .output()
             .map_err(|error| format!("valgrind does not run: {error}"))?;
         let said = String::from_utf8_lossy(&run.stderr);
@@ -211,9 +209,7 @@ fn plan() -> Result<Option<Plan>, String> {
         match word.as_str() {
             "--help" | "-h" => return Ok(None),
             "--instructions" => plan.instructions = true,
-            "--image" => plan
-                .images
-                .push(words.next().ok_or("--image wants a file")?),
+            "--image" => plan.images.push(given(words.next())?),
             "--once" => {
                 let mut number = || words.next()?.parse::<usize>().ok();
                 let once = number().zip(number().and_then(|side| Side::ALL.get(side).copied()));

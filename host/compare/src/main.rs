@@ -10,7 +10,7 @@ mod replay;
 mod tally;
 mod typed;
 
-use oracle::made;
+use oracle::made::{Given, given};
 use std::process::ExitCode;
 use std::time::Instant;
 use tally::Tally;
@@ -35,8 +35,8 @@ A PART is a word of the names below; all of them run where none is given.
 pub struct Plan {
     pub all: bool,
     pub seed: u64,
-    /// Files to form blocks of, by their names.
-    pub images: Vec<(String, Vec<u8>)>,
+    /// Files to form blocks of.
+    pub images: Vec<Given>,
     /// The parts to run, by words of their names; all where there is none.
     pub parts: Vec<String>,
     /// Where to write the replay's files, instead of comparing.
@@ -123,11 +123,7 @@ fn plan() -> Result<Option<Plan>, String> {
                 plan.seed = number.parse().map_err(|_| format!("{number} is no seed"))?;
             }
             "--replay" => plan.replay = Some(words.next().ok_or("--replay wants a folder")?),
-            "--image" => {
-                let name = words.next().ok_or("--image wants a file")?;
-                let image = made::given(&name)?;
-                plan.images.push((name, image));
-            }
+            "--image" => plan.images.push(given(words.next())?),
             _ if PARTS.iter().any(|(name, _)| name.contains(word.as_str())) => {
                 plan.parts.push(word)
             }
