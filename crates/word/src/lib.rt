@@ -273,7 +273,7 @@ fn form_of(op: u32, funct3: u32, funct7: u32, rs2: u32) -> Form
         OP_JAL => Form::Jal,
         OP_JALR => match funct3 {
             0 => Form::Jalr,
-            _ => Form::NoForm,
+            _ => Form::NoForm, // no JALR: its funct3 is 0
         },
         OP_BRANCH => branch_form(funct3),
         OP_LOAD => load_form(funct3),
