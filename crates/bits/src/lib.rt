@@ -26,7 +26,7 @@ pub fn zero_extend(val: u32) -> i64
     val as i64
 }
 
-// A byte as a number. In an argument behind a call the cast alone would lack the fact that a byte fits.
+// A byte as a number. Of a byte that was read from a slice, the cast alone would lack the fact that it fits.
 pub fn as_u64(byte: u8) -> u64
     ensures { λ r. ⌜ r ≡ byte ⌝ }
 {
