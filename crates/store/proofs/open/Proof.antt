@@ -39,7 +39,7 @@ open-spec =
       long = omega arith;
       signed = sym (test .before .before .before .doubleword-at3 .ensures) ∙ test .before .before .if2 .left ∙ sym (signature-is _);
       bounded = ap within (sym (told read)) ∙ sym (test .before .in-bounds .ensures) ∙ test .if3 .taken;
-      exact = c .if4 .taken ∙ c .before .store-len .ensures ∙ ap storeLen same;
+      exact = omega (arith, c .before .store-len .ensures ∙ ap storeLen same);
     })))
     (λ c.
     let test = c .before .before .before in
