@@ -1,4 +1,4 @@
-/* Calls Unvriscol from C and prints the answers. From a fresh clone:
+/* Calls Unvriscol from C and prints the answers, which are those of examples/door.stdout. From a fresh clone:
  *
  *     rt staticlib unvriscol
  *     gcc -Wall -Wextra -Iinclude -o target/door examples/door.c target/staticlib/libunvriscol.a
@@ -41,6 +41,10 @@ static void number(const char *what, uint64_t n) {
     printf("%-34s %" PRIu64 "\n", what, n);
 }
 
+static void yes(const char *what, int so) {
+    printf("%-34s %s\n", what, so ? "yes" : "no");
+}
+
 static void decode_and_compute(void) {
     uint8_t record[UV_OP_RECORD] = {0};
 
@@ -49,40 +53,45 @@ static void decode_and_compute(void) {
     halfword("c.jr ra", 0x8082);
     halfword("c.ebreak: no op, no byte changed", 0x9002);
     decoded("a record of 15 bytes", uv_decode_word(0x00100513, record, 15), record);
-    answer("sra of 2^63 by 1", uv_alu(7, UINT64_C(1) << 63, 1));
-    answer("addw of 0x7FFFFFFF and 1", uv_alu(10, 0x7FFFFFFF, 1));
-    answer("mul: refused", uv_alu(15, 6, 7));
+    answer("sra of 2^63 by 1", uv_alu(UV_ALU_SRA, UINT64_C(1) << 63, 1));
+    answer("addw of 0x7FFFFFFF and 1", uv_alu(UV_ALU_ADDW, 0x7FFFFFFF, 1));
+    answer("mul: refused", uv_alu(UV_ALU_MUL, 6, 7));
 }
 
 /* A block is formed, kept, found, and dropped by a write to its page. */
 static void round_of_the_cache(void) {
-    enum { E = 2, PAGES = 2, BASE = 0x1000 };
-    static uint8_t memory[PAGES * 4096] = {0x13, 0x05, 0x10, 0x00, 0x82, 0x80}; /* addi a0, zero, 1; c.jr ra */
+    enum { E = 2, PAGES = 2, BASE = 0x1000, ROUTINE = 0x1006 };
+    static uint8_t memory[PAGES * UV_PAGE] = {0, 0, 0, 0, 0, 0, 0x13, 0x05, 0x10, 0x00, 0x82, 0x80}; /* addi a0, zero, 1; c.jr ra */
     static uint8_t store[UV_STORE(E, PAGES)];
     uint8_t record[UV_BLOCK_RECORD];
 
     number("make 4 slots over 2 pages", uv_make(store, sizeof store, E, BASE, PAGES));
-    number("form the block at 0x1000", uv_form(memory, sizeof memory, BASE, 0x1000, record, sizeof record));
-    op("  its first op ", record + 16);
-    op("  its second op", record + 32);
-    answer("lookup: not there yet", uv_lookup(store, sizeof store, 0x1000));
-    number("insert", uv_insert(store, sizeof store, 0x1000, record, sizeof record));
-    number("insert at 0x1002: not its record", uv_insert(store, sizeof store, 0x1002, record, sizeof record));
+    number("form the routine's block", uv_form(memory, sizeof memory, BASE, ROUTINE, record, sizeof record));
+    op("  its first op ", record + UV_BLOCK_AT_OPS);
+    op("  its second op", record + UV_BLOCK_AT_OPS + UV_OP_RECORD);
+    answer("lookup: not there yet", uv_lookup(store, sizeof store, ROUTINE));
+    number("insert", uv_insert(store, sizeof store, ROUTINE, record, sizeof record));
+    number("insert at 0x1000: not its record", uv_insert(store, sizeof store, 0x1000, record, sizeof record));
     answer("generation", uv_generation(store, sizeof store));
 
-    uv_answer hit = uv_lookup(store, sizeof store, 0x1000);
+    uv_answer hit = uv_lookup(store, sizeof store, ROUTINE);
     answer("lookup: where in the store", hit);
-    printf("%-34s %s\n", "  the record is there", memcmp(store + hit.value, record, sizeof record) == 0 ? "yes" : "no");
+    yes("  its slot's place is there", hit.value == UV_PLACE(E, PAGES, ROUTINE));
+    yes("  the record is there", memcmp(store + hit.value, record, sizeof record) == 0);
+
+    /* Lent buffers do not overlap, so a record of the store is copied before it is inserted again. */
+    memcpy(record, store + hit.value, sizeof record);
+    number("insert it again, by a copy", uv_insert(store, sizeof store, ROUTINE, record, sizeof record));
 
     answer("write to the other page", uv_guest_write(store, sizeof store, memory, sizeof memory, 0x2000, 8, 1));
-    answer("lookup: still there", uv_lookup(store, sizeof store, 0x1000));
-    answer("write into the block", uv_guest_write(store, sizeof store, memory, sizeof memory, 0x1004, 2, 0x0001));
-    answer("lookup: gone", uv_lookup(store, sizeof store, 0x1000));
+    answer("lookup: still there", uv_lookup(store, sizeof store, ROUTINE));
+    answer("write into the block", uv_guest_write(store, sizeof store, memory, sizeof memory, ROUTINE + 4, 2, 0x0001));
+    answer("lookup: gone", uv_lookup(store, sizeof store, ROUTINE));
     answer("write past the end: refused", uv_guest_write(store, sizeof store, memory, sizeof memory, 0x2FFF, 2, 0));
 
-    number("form: c.nop now, and no c.jr", uv_form(memory, sizeof memory, BASE, 0x1000, record, sizeof record));
-    op("  its second op", record + 32);
-    number("insert", uv_insert(store, sizeof store, 0x1000, record, sizeof record));
+    number("form: c.nop now, and no c.jr", uv_form(memory, sizeof memory, BASE, ROUTINE, record, sizeof record));
+    op("  its second op", record + UV_BLOCK_AT_OPS + UV_OP_RECORD);
+    number("insert", uv_insert(store, sizeof store, ROUTINE, record, sizeof record));
     answer("notice of a write elsewhere", uv_notice(store, sizeof store, 0x2000));
     answer("notice of a write to its page", uv_notice(store, sizeof store, 0x1FFF));
     number("flush", uv_flush(store, sizeof store));
@@ -90,6 +99,8 @@ static void round_of_the_cache(void) {
 }
 
 int main(void) {
+    number("version", UNVRISCOL_VERSION);
+    number("bytes of the longest store", UV_STORE(UV_MAX_E, UV_MAX_PAGES));
     decode_and_compute();
     round_of_the_cache();
     return 0;

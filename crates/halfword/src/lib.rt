@@ -179,8 +179,8 @@ fn c_sw(c: CompressedInstruction) -> Decoded
 {
     Decoded::Some(Op::Store {
         kind: StoreKind::Sw,
-        rs1: c.rs1_prime(),
-        rs2: c.rs2_prime(),
+        rs1: c.rs1_prime(), // the address
+        rs2: c.rs2_prime(), // what is stored
         imm: c.uimm_lw(),
     })
 }

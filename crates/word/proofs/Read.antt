@@ -37,46 +37,46 @@ form-other w (Reg k) = some refl (omega arith)
 pub word-no-fallback : (w raw : ℕ) → rustWord w ≡ Some (Fallback raw) → ⊥
 word-no-fallback w raw = no-fallback (rustWord w) raw (form-other w (formOf w))
 
-abbrev blank : Form → Bool
-blank NoForm = true
-blank Lui = false
-blank Auipc = false
-blank Jal = false
-blank Jalr = false
-blank (Branch k) = false
-blank (Load k) = false
-blank (Store k) = false
-blank (Imm k) = false
-blank (Shift6 k) = false
-blank (Shift5 k) = false
-blank (Unary k) = false
-blank (Reg k) = false
+abbrev reads-none : Form → Bool
+reads-none NoForm = true
+reads-none Lui = false
+reads-none Auipc = false
+reads-none Jal = false
+reads-none Jalr = false
+reads-none (Branch k) = false
+reads-none (Load k) = false
+reads-none (Store k) = false
+reads-none (Imm k) = false
+reads-none (Shift6 k) = false
+reads-none (Shift5 k) = false
+reads-none (Unary k) = false
+reads-none (Reg k) = false
 
-blank-is : (w : ℕ) (f : Form) → T (blank f) → opOf w f ≡ None
-blank-is w NoForm t = refl
-blank-is w Lui t = absurd t
-blank-is w Auipc t = absurd t
-blank-is w Jal t = absurd t
-blank-is w Jalr t = absurd t
-blank-is w (Branch k) t = absurd t
-blank-is w (Load k) t = absurd t
-blank-is w (Store k) t = absurd t
-blank-is w (Imm k) t = absurd t
-blank-is w (Shift6 k) t = absurd t
-blank-is w (Shift5 k) t = absurd t
-blank-is w (Unary k) t = absurd t
-blank-is w (Reg k) t = absurd t
+reads-none-is : (w : ℕ) (f : Form) → T (reads-none f) → opOf w f ≡ None
+reads-none-is w NoForm t = refl
+reads-none-is w Lui t = absurd t
+reads-none-is w Auipc t = absurd t
+reads-none-is w Jal t = absurd t
+reads-none-is w Jalr t = absurd t
+reads-none-is w (Branch k) t = absurd t
+reads-none-is w (Load k) t = absurd t
+reads-none-is w (Store k) t = absurd t
+reads-none-is w (Imm k) t = absurd t
+reads-none-is w (Shift6 k) t = absurd t
+reads-none-is w (Shift5 k) t = absurd t
+reads-none-is w (Unary k) t = absurd t
+reads-none-is w (Reg k) t = absurd t
 
-blanks : (f3 f7 r2 : ℕ) → T (every 128 (λ op. eqb (op % 4) 3 || blank (formBy op f3 f7 r2)))
+read-none : (f3 f7 r2 : ℕ) → T (every 128 (λ op. eqb (op % 4) 3 || reads-none (formBy op f3 f7 r2)))
 unfolding formBy
-blanks f3 f7 r2 = tt
+read-none f3 f7 r2 = tt
 
 pub word-low : (w : ℕ) → (bitsAt w 0 2 ≡ 3 → ⊥) → rustWord w ≡ None
 word-low w h =
     let n : opcode w % 4 ≡ 3 → ⊥ = λ e. h (omega arith) in
-    blank-is w (formOf w)
+    reads-none-is w (formOf w)
     (rw (ne-eqb (opcode w % 4) 3 n) at
-    (at 128 (λ op. eqb (op % 4) 3 || blank (formBy op (funct3 w) (funct7 w) (rs2 w))) (blanks (funct3 w) (funct7 w) (rs2 w)) (opcode w) (omega arith)))
+    (at 128 (λ op. eqb (op % 4) 3 || reads-none (formBy op (funct3 w) (funct7 w) (rs2 w))) (read-none (funct3 w) (funct7 w) (rs2 w)) (opcode w) (omega arith)))
 
 -- so an op that a word is read as has a record that is well formed
 pub word-op : (w : ℕ) (op : Op) → rustWord w ≡ Some op → (eqb (opFields op .op) fallbackNumber ≡ false) × Proper op

@@ -1,12 +1,12 @@
 // Words to ops, as the Rust reads them: `decode_full`, in two steps. `form_of` finds how the operands are read, with the kind, and `op_of`
-// reads them; `imm_op` takes the commonest opcode in one. (block.rs, `decode_full`)
+// reads them. (block.rs, `decode_full`)
 pub mod instruction;
 
 ghost use mathlib.Core.Path.{_≡_};
-ghost use Prim.Native.Nat.{ℕ, _%_, _<_};
+ghost use Prim.Native.Nat.{_<_};
 ghost use Rattle.bits.specs.Match.{case};
 ghost use Rattle.word.specs.Word.{branchRows, loadRows, storeRows, leftRows, rightRows, immRows, left32Rows, imm32Rows, regRows, reg32Rows, formBy, opOf, rustWord};
-ghost use Rattle.word.specs.declared.Form.the-variants.{NoForm, Imm, Shift6, Unary};
+ghost use Rattle.word.specs.declared.Form.the-variants.{NoForm};
 use instruction::Instruction;
 use op::AluKind;
 use op::BranchKind;
@@ -92,6 +92,70 @@ fn store_form(funct3: u32) -> Form
         0x2 => Form::Store(StoreKind::Sw),
         0x3 => Form::Store(StoreKind::Sd),
         _ => Form::NoForm,
+    }
+}
+
+// OP_IMM, funct3 1
+fn left_form(funct6: u32, shamt: u32) -> Form
+    ensures { λ r. ⌜ r ≡ case funct6 (leftRows shamt) NoForm ⌝ }
+{
+    match funct6 {
+        0x00 => Form::Shift6(AluKind::Sll),
+        0x18 => match shamt {
+            0 => Form::Unary(AluKind::Clz),
+            1 => Form::Unary(AluKind::Ctz),
+            2 => Form::Unary(AluKind::Cpop),
+            _ => Form::NoForm,
+        },
+        0x1a => match shamt {
+            2 => Form::Unary(AluKind::SextB),
+            4 => Form::Unary(AluKind::SextH),
+            _ => Form::NoForm,
+        },
+        _ => Form::NoForm,
+    }
+}
+
+// OP_IMM, funct3 5
+fn right_form(funct6: u32, shamt: u32) -> Form
+    ensures { λ r. ⌜ r ≡ case funct6 (rightRows shamt) NoForm ⌝ }
+{
+    match funct6 {
+        0x00 => Form::Shift6(AluKind::Srl),
+        0x10 => Form::Shift6(AluKind::Sra),
+        0x14 => match shamt {
+            7 => Form::Unary(AluKind::OrcB),
+            _ => Form::NoForm,
+        },
+        0x35 => match shamt {
+            24 => Form::Unary(AluKind::Rev8),
+            8 => Form::Unary(AluKind::Rev8),
+            _ => Form::NoForm,
+        },
+        0x18 => Form::Shift6(AluKind::Ror),
+        _ => Form::NoForm,
+    }
+}
+
+// The shifts stand apart: then the other kinds are looked up, where they would cost a jump, and this is the commonest opcode.
+fn imm_form(funct3: u32, funct6: u32, shamt: u32) -> Form
+    requires { ⌜ funct3 < 8 ⌝ }
+    ensures { λ r. ⌜ r ≡ case funct3 (immRows funct6 shamt) NoForm ⌝ }
+{
+    if funct3 % 4 == 1 {
+        match funct3 {
+            0x1 => left_form(funct6, shamt),
+            _ => right_form(funct6, shamt),
+        }
+    } else {
+        match funct3 {
+            0x0 => Form::Imm(AluKind::Add),
+            0x2 => Form::Imm(AluKind::Slt),
+            0x3 => Form::Imm(AluKind::Sltu),
+            0x4 => Form::Imm(AluKind::Xor),
+            0x6 => Form::Imm(AluKind::Or),
+            _ => Form::Imm(AluKind::And),
+        }
     }
 }
 
@@ -199,9 +263,8 @@ fn reg32_form(key: u32, rs2: u32) -> Form
     }
 }
 
-// OP_IMM is not asked for: `imm_op` reads it.
 fn form_of(op: u32, funct3: u32, funct7: u32, rs2: u32) -> Form
-    requires { ⌜ (funct3 < 8) × (funct7 < 128) × (rs2 < 32) × (op ≡ 0x13 → ⊥) ⌝ }
+    requires { ⌜ (funct3 < 8) × (funct7 < 128) × (rs2 < 32) ⌝ }
     ensures { λ r. ⌜ r ≡ formBy op funct3 funct7 rs2 ⌝ }
 {
     match op {
@@ -210,11 +273,12 @@ fn form_of(op: u32, funct3: u32, funct7: u32, rs2: u32) -> Form
         OP_JAL => Form::Jal,
         OP_JALR => match funct3 {
             0 => Form::Jalr,
-            _ => Form::NoForm,
+            _ => Form::NoForm, // no JALR: its funct3 is 0
         },
         OP_BRANCH => branch_form(funct3),
         OP_LOAD => load_form(funct3),
         OP_STORE => store_form(funct3),
+        OP_IMM => imm_form(funct3, funct7 / 2, funct7 % 2 * 32 + rs2),
         OP_IMM32 => imm32_form(funct3, funct7, rs2),
         OP_REG => reg_form(funct3 * 0x100 + funct7),
         OP_REG32 => reg32_form(funct3 * 0x100 + funct7, rs2),
@@ -293,136 +357,17 @@ fn op_of(inst: Instruction, form: Form) -> Decoded
     }
 }
 
-fn imm(inst: Instruction, kind: AluKind) -> Decoded
-    ensures { λ r. ⌜ r ≡ opOf (inst .0) (Imm kind) ⌝ }
-{
-    Decoded::Some(Op::AluImm {
-        kind,
-        rd: inst.rd(),
-        rs1: inst.rs1(),
-        imm: inst.imm_i(),
-    })
-}
-
-fn shift(inst: Instruction, kind: AluKind) -> Decoded
-    ensures { λ r. ⌜ r ≡ opOf (inst .0) (Shift6 kind) ⌝ }
-{
-    Decoded::Some(Op::AluImm {
-        kind,
-        rd: inst.rd(),
-        rs1: inst.rs1(),
-        imm: inst.shamt6(),
-    })
-}
-
-fn unary(inst: Instruction, kind: AluKind) -> Decoded
-    ensures { λ r. ⌜ r ≡ opOf (inst .0) (Unary kind) ⌝ }
-{
-    Decoded::Some(Op::AluImm {
-        kind,
-        rd: inst.rd(),
-        rs1: inst.rs1(),
-        imm: 0,
-    })
-}
-
-// OP_IMM, funct3 1
-fn left_op(inst: Instruction, funct6: u32, shamt: u32) -> Decoded
-    ensures { λ r. ⌜ r ≡ opOf (inst .0) (case funct6 (leftRows shamt) NoForm) ⌝ }
-{
-    match funct6 {
-        0x00 => shift(inst, AluKind::Sll),
-        0x18 => match shamt {
-            0 => unary(inst, AluKind::Clz),
-            1 => unary(inst, AluKind::Ctz),
-            2 => unary(inst, AluKind::Cpop),
-            _ => Decoded::None,
-        },
-        0x1a => match shamt {
-            2 => unary(inst, AluKind::SextB),
-            4 => unary(inst, AluKind::SextH),
-            _ => Decoded::None,
-        },
-        _ => Decoded::None,
-    }
-}
-
-// OP_IMM, funct3 5
-fn right_op(inst: Instruction, funct6: u32, shamt: u32) -> Decoded
-    ensures { λ r. ⌜ r ≡ opOf (inst .0) (case funct6 (rightRows shamt) NoForm) ⌝ }
-{
-    match funct6 {
-        0x00 => shift(inst, AluKind::Srl),
-        0x10 => shift(inst, AluKind::Sra),
-        0x14 => match shamt {
-            7 => unary(inst, AluKind::OrcB),
-            _ => Decoded::None,
-        },
-        0x35 => match shamt {
-            24 => unary(inst, AluKind::Rev8),
-            8 => unary(inst, AluKind::Rev8),
-            _ => Decoded::None,
-        },
-        0x18 => shift(inst, AluKind::Ror),
-        _ => Decoded::None,
-    }
-}
-
-// OP_IMM, but the shifts
-fn imm_kind(funct3: u32) -> AluKind
-    requires { ⌜ (funct3 < 8) × (funct3 % 4 ≡ 1 → ⊥) ⌝ }
-    ensures { λ r. ⌜ ((funct6 shamt : ℕ) → Imm r ≡ case funct3 (immRows funct6 shamt) NoForm) ⌝ }
-{
-    match funct3 {
-        0x0 => AluKind::Add,
-        0x2 => AluKind::Slt,
-        0x3 => AluKind::Sltu,
-        0x4 => AluKind::Xor,
-        0x6 => AluKind::Or,
-        _ => AluKind::And,
-    }
-}
-
-fn shift_op(inst: Instruction, funct3: u32, funct6: u32, shamt: u32) -> Decoded
-    requires { ⌜ (funct3 < 8) × (funct3 % 4 ≡ 1) ⌝ }
-    ensures { λ r. ⌜ r ≡ opOf (inst .0) (case funct3 (immRows funct6 shamt) NoForm) ⌝ }
-{
-    match funct3 {
-        0x1 => left_op(inst, funct6, shamt),
-        _ => right_op(inst, funct6, shamt),
-    }
-}
-
-// OP_IMM, the commonest opcode, in one step, and the shifts apart: then the kind is looked up, where it would cost a jump, and so would the form.
-fn imm_op(inst: Instruction, funct3: u32, funct6: u32, shamt: u32) -> Decoded
-    requires { ⌜ funct3 < 8 ⌝ }
-    ensures { λ r. ⌜ r ≡ opOf (inst .0) (case funct3 (immRows funct6 shamt) NoForm) ⌝ }
-{
-    if funct3 % 4 == 1 {
-        return shift_op(inst, funct3, funct6, shamt);
-    }
-    imm(inst, imm_kind(funct3))
-}
-
-fn op_at(inst: Instruction, op: u32, funct3: u32, funct7: u32, rs2: u32) -> Decoded
-    requires { ⌜ (funct3 < 8) × (funct7 < 128) × (rs2 < 32) ⌝ }
-    ensures { λ r. ⌜ r ≡ opOf (inst .0) (formBy op funct3 funct7 rs2) ⌝ }
-{
-    if op == OP_IMM {
-        return imm_op(inst, funct3, funct7 / 2, funct7 % 2 * 32 + rs2);
-    }
-    op_of(inst, form_of(op, funct3, funct7, rs2))
-}
-
 pub fn decode_full(raw: u32) -> Decoded
     ensures { λ r. ⌜ r ≡ rustWord raw ⌝ }
 {
     let inst = Instruction(raw);
-    op_at(
+    op_of(
         inst,
-        inst.opcode(),
-        inst.funct3(),
-        inst.funct7(),
-        inst.rs2() as u32,
+        form_of(
+            inst.opcode(),
+            inst.funct3(),
+            inst.funct7(),
+            inst.rs2() as u32,
+        ),
     )
 }

@@ -1,10 +1,5 @@
-//! Times Unvriscol's C functions and the original Rust's side by side.
-//!
-//! ```text
-//! cargo run --release -p bench                      # on encodings that it makes
-//! cargo run --release -p bench -- IMAGE             # on the words and halfwords of a file
-//! cargo run --release -p bench -- --instructions    # instructions by callgrind, which do not depend on the machine's load
-//! ```
+//! Times Unvriscol's C functions and the original Rust's side by side. [`USAGE`] says how it is asked: `cargo run --release -p bench`, with the
+//! variable VPOD set (host/oracle/build.rs).
 //!
 //! Both sides are called and not inlined: ours is a C function, and the original's functions stand behind `#[inline(never)]`. Both leave what
 //! they decode in memory, ours as a record, the original as an `Option<Op>` or a `Block` in a box. Where there is a floor, it is the loads
@@ -12,42 +7,86 @@
 mod cache;
 mod work;
 
+use oracle::made::{Given, given};
 use std::hint::black_box;
 use std::process::{Command, ExitCode};
 use std::time::Instant;
 use work::{Calls, Side, Target, Work};
+
+const USAGE: &str = "\
+usage: bench [--instructions] [--image FILE].. [ROW]..
+
+Times Unvriscol's C functions and the original Rust's side by side: nanoseconds per call, of the best of many rounds.
+
+  --instructions  count instructions by callgrind instead, which do not depend on the machine's load (needs valgrind)
+  --image FILE    the words, halfwords and blocks of a file, as they stand, in place of made ones; may be repeated, for a table each
+  --help          this text
+
+A ROW is a word of the names below; all of them are timed where none is given.
+";
 
 /// Many short rounds: a pass takes a millisecond or two, so that on a loaded machine some of them run undisturbed.
 const ROUNDS: usize = 300;
 
 #[derive(Default)]
 struct Plan {
-    image: Option<String>,
+    images: Vec<Given>,
+    /// The rows to time, by words of their names; all where there is none.
+    rows: Vec<String>,
     instructions: bool,
     /// A row and a side, to be run once: what callgrind is started on.
     once: Option<(usize, Side)>,
 }
 
 fn main() -> ExitCode {
-    let plan = match plan() {
-        Ok(plan) => plan,
-        Err(why) => {
-            eprintln!("{why}\nusage: bench [--instructions] [IMAGE]");
-            return ExitCode::from(2);
+    match plan() {
+        Ok(Some(plan)) => match tables(&plan) {
+            Ok(()) => ExitCode::SUCCESS,
+            Err(why) => {
+                eprintln!("bench: {why}");
+                ExitCode::FAILURE
+            }
+        },
+        Ok(None) => {
+            print!("{USAGE}");
+            for name in names() {
+                println!("  {name}");
+            }
+            ExitCode::SUCCESS
         }
-    };
-    let mut rows = match work::rows(plan.image.as_deref()) {
-        Ok(rows) => rows,
         Err(why) => {
-            eprintln!("{why}");
-            return ExitCode::FAILURE;
+            eprintln!("bench: {why}");
+            ExitCode::from(2)
         }
-    };
+    }
+}
+
+/// The rows' names, which no image changes.
+fn names() -> Vec<String> {
+    let rows = work::rows(None);
+    rows.into_iter().map(|work| work.name).collect()
+}
+
+fn tables(plan: &Plan) -> Result<(), String> {
+    if plan.images.is_empty() {
+        return table(plan, None);
+    }
+    for image in &plan.images {
+        println!("image {}: length {}\n", image.0, image.1.len());
+        table(plan, Some(image))?;
+        println!();
+    }
+    Ok(())
+}
+
+/// The table for an image, or for what is made where there is none.
+fn table(plan: &Plan, image: Option<&Given>) -> Result<(), String> {
+    let mut rows = work::rows(image.map(|(_, bytes)| &bytes[..]));
     if let Some((row, side)) = plan.once {
-        let calls = &mut *rows[row].calls;
+        let calls = &mut *rows.get_mut(row).ok_or("no such row")?.calls;
         calls.prepare(side);
         bench_measured(calls, side);
-        return ExitCode::SUCCESS;
+        return Ok(());
     }
     let unit = if plan.instructions {
         "instructions"
@@ -59,20 +98,21 @@ fn main() -> ExitCode {
     );
     println!("|---|---|---|---|---|---|---|");
     for (at, work) in rows.iter_mut().enumerate() {
+        if !plan.rows.is_empty() && !plan.rows.iter().any(|row| work.name.contains(row)) {
+            continue;
+        }
+        if work.calls.len() == 0 {
+            println!("| {} | | | | | | none in the image |", work.name);
+            continue;
+        }
         let costs = if plan.instructions {
-            match counted(at, work, plan.image.as_deref()) {
-                Ok(counts) => counts,
-                Err(why) => {
-                    eprintln!("{why}");
-                    return ExitCode::FAILURE;
-                }
-            }
+            counted(at, work, image)?
         } else {
             timed(work)
         };
         println!("{}", line(work, costs));
     }
-    ExitCode::SUCCESS
+    Ok(())
 }
 
 /// A side's cost of one pass; none where the row lacks the side.
@@ -85,7 +125,9 @@ fn line(work: &Work, costs: Costs) -> String {
     let over = |side| {
         let ratio = cost(Side::Ours)
             .zip(cost(side))
-            .map(|(ours, cost)| ours / cost);
+            .map(|(ours, cost)| ours / cost)
+            // A pass of a few calls can be shorter than the clock tells.
+            .filter(|ratio| ratio.is_finite());
         ratio.map_or(String::new(), |ratio| format!("{ratio:.2}"))
     };
     let target = match work.target {
@@ -135,7 +177,7 @@ fn timed(work: &mut Work) -> Costs {
 }
 
 /// Instructions for one pass on each side, counted by callgrind on this program itself.
-fn counted(row: usize, work: &Work, image: Option<&str>) -> Result<Costs, String> {
+fn counted(row: usize, work: &Work, image: Option<&Given>) -> Result<Costs, String> {
     let mut counts = [None; 3];
     for &side in work.sides {
         let run = Command::new("valgrind")
@@ -146,7 +188,7 @@ fn counted(row: usize, work: &Work, image: Option<&str>) -> Result<Costs, String
             ])
             .arg(std::env::current_exe().map_err(|error| error.to_string())?)
             .args(["--once", &row.to_string(), &(side as usize).to_string()])
-            .args(image)
+            .args(image.iter().flat_map(|(name, _)| ["--image", name]))
             .output()
             .map_err(|error| format!("valgrind does not run: {error}"))?;
         let said = String::from_utf8_lossy(&run.stderr);
@@ -159,19 +201,27 @@ fn counted(row: usize, work: &Work, image: Option<&str>) -> Result<Costs, String
     Ok(counts)
 }
 
-fn plan() -> Result<Plan, String> {
+/// The plan, or none where the usage is asked for.
+fn plan() -> Result<Option<Plan>, String> {
     let mut plan = Plan::default();
     let mut words = std::env::args().skip(1);
     while let Some(word) = words.next() {
         match word.as_str() {
+            "--help" | "-h" => return Ok(None),
             "--instructions" => plan.instructions = true,
+            "--image" => plan.images.push(given(words.next())?),
             "--once" => {
                 let mut number = || words.next()?.parse::<usize>().ok();
-                plan.once = number().zip(number().and_then(|side| Side::ALL.get(side).copied()));
+                let once = number().zip(number().and_then(|side| Side::ALL.get(side).copied()));
+                plan.once = Some(once.ok_or("--once wants a row and a side")?);
             }
-            _ if word.starts_with('-') => return Err(format!("{word} is not known")),
-            _ => plan.image = Some(word),
+            _ if names().iter().any(|name| name.contains(word.as_str())) => plan.rows.push(word),
+            _ => {
+                return Err(format!(
+                    "{word} is no option and no row; --help lists both, and --image names a file"
+                ));
+            }
         }
     }
-    Ok(plan)
+    Ok(Some(plan))
 }

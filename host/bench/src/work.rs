@@ -150,8 +150,8 @@ fn groups() -> Vec<(&'static str, Vec<AluKind>)> {
     groups
 }
 
-/// The rows of the table.
-pub fn rows(image: Option<&str>) -> Result<Vec<Work>, String> {
+/// The rows of the table, on an image's encodings or on made ones.
+pub fn rows(image: Option<&[u8]>) -> Vec<Work> {
     let mut random = Random::new(1, 5);
     let target = |most| {
         Some(Target {
@@ -160,10 +160,9 @@ pub fn rows(image: Option<&str>) -> Result<Vec<Work>, String> {
         })
     };
     let (words, halfwords, image) = match image {
-        Some(name) => {
-            let bytes = std::fs::read(name).map_err(|error| format!("{name}: {error}"))?;
-            let (words, halfwords) = made::split(&bytes);
-            (words, halfwords, bytes)
+        Some(image) => {
+            let (words, halfwords) = made::split(image);
+            (words, halfwords, image.to_vec())
         }
         None => {
             let (words, halfwords) = made::made(CALLS, &mut random);
@@ -198,5 +197,5 @@ pub fn rows(image: Option<&str>) -> Result<Vec<Work>, String> {
         rows.push(row(name, target(1.2), Box::new(Alu(calls))));
     }
     rows.extend(cache::rows(&image));
-    Ok(rows)
+    rows
 }

@@ -1,5 +1,5 @@
-//! Histories of cache calls: against document 01's model at every slot count, with refusals and stores that were scribbled on; and against the
-//! original's `BlockCache` at its own.
+//! Histories of cache calls: against the model at every slot count, with refusals and stores that were scribbled on; and against the original's
+//! `BlockCache` at its own.
 use crate::form::record_of;
 use crate::model::{self, OP, OPS, PAGE, RECORD, Shape};
 use crate::{Plan, Tally};
@@ -380,7 +380,7 @@ fn history(shape: Shape, calls: u64, scribbled: bool, mut random: Random, tally:
         tally.expects(expected.number);
         let same = ours == model;
         tally.expect(answer == expected && same && kept, || {
-            format!("{shape:x?}, call {step}, {call:x?}: document 01 gives {expected:?}, ours {answer:?}; lent bytes {}", if same { "the same" } else { "differ" })
+            format!("{shape:x?}, call {step}, {call:x?}: the model gives {expected:?}, ours {answer:?}; lent bytes {}", if same { "the same" } else { "differ" })
         });
         if !same {
             ours = model.clone();
@@ -446,7 +446,7 @@ pub fn original(plan: &Plan, tally: &mut Tally) {
         Call::Make(shape).ours(ours.store.bytes(), &mut []);
         for step in 0..if plan.all { 1_000_000 } else { 70_000 } {
             let call = match draw.call() {
-                // The original takes any block; what document 01 refuses is not put to it.
+                // The original takes any block; what the model refuses is not put to it.
                 Call::Insert(address, _) if shape.holds(address) => {
                     let Some(block) = block::decode_block(&mut draw.bus, address) else {
                         continue;

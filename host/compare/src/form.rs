@@ -7,7 +7,7 @@ use oracle::made;
 use oracle::random::Random;
 use unvriscol::door::uv_form;
 
-/// The original's block as document 01's record.
+/// The original's block as a block record.
 pub fn record_of(block: &Block, address: u64) -> [u8; RECORD] {
     let mut bytes = [0; RECORD];
     bytes[..8].copy_from_slice(&address.to_le_bytes());
@@ -24,7 +24,7 @@ pub fn record_of(block: &Block, address: u64) -> [u8; RECORD] {
     bytes
 }
 
-/// Document 01's checks in their order, and then the original.
+/// The checks in the order of docs/FORMATS.md, "Orders of checks", and then the original.
 fn expected(bus: &mut Plain, address: u64, lent: &mut [u8]) -> u64 {
     let len = bus.bytes.len() as u64;
     let shape = Shape {
@@ -108,7 +108,8 @@ pub fn images(plan: &Plan, tally: &mut Tally) {
     for (name, image) in &plan.images {
         let mut bytes = image.clone();
         bytes.resize(bytes.len().next_multiple_of(PAGE as usize), 0);
-        println!("image {name}: {} pages", bytes.len() / PAGE as usize);
+        let pages = bytes.len() / PAGE as usize;
+        println!("image {name}: length {}, pages {pages}", image.len());
         everywhere(
             &mut Plain {
                 bytes,

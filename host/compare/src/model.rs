@@ -1,4 +1,4 @@
-//! Document 01's cache calls as plain code, to be read beside its sections "Bounds", "Records the host reads" and "Calls and what comes back".
+//! The cache calls as plain code, to be read beside docs/FORMATS.md, "Bounds", "Well-formed records", "The store" and "What the calls do".
 //! A call gives `Ok` with its value (0 where it has none) or `Err` with the number.
 use std::ops::Range;
 

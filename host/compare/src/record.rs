@@ -1,4 +1,4 @@
-//! What the original's op is as document 01's record, written down here apart from the code under test.
+//! What the original's op is as an op record (docs/FORMATS.md), written down here apart from the code under test.
 use oracle::block::Op;
 
 pub const LEN: usize = 16;

@@ -1,4 +1,4 @@
-//! Guest memory for the original: plain bytes from a base on, as document 01 has it.
+//! Guest memory for the original: plain bytes from a base on.
 use crate::system_bus::SystemBus;
 
 pub struct Plain {

@@ -2,6 +2,22 @@
 use crate::block;
 use crate::random::Random;
 
+/// The name and the bytes of an image that is there.
+pub type Given = (String, Vec<u8>);
+
+/// The image that the word behind `--image` names: a file of 1 byte to 65,536 pages.
+pub fn given(name: Option<String>) -> Result<Given, String> {
+    let name = name.ok_or("--image wants a file")?;
+    let bytes = std::fs::read(&name).map_err(|why| format!("{name}: {why}"))?;
+    match bytes.len() {
+        0 => Err(format!("{name} is empty: an image has at least one byte")),
+        1..=0x1000_0000 => Ok((name, bytes)),
+        _ => Err(format!(
+            "{name} is longer than 65,536 pages of 4,096 bytes, the longest memory"
+        )),
+    }
+}
+
 /// The words and halfwords of an image, as a hart would fetch them from its start on.
 pub fn split(bytes: &[u8]) -> (Vec<u32>, Vec<u16>) {
     let (mut words, mut halfwords) = (Vec::new(), Vec::new());

@@ -3,7 +3,7 @@
 //! that also drops the page's blocks.
 //!
 //! ```text
-//! cargo run -p unvriscol --example incident        # in host/; with a checkout of capsulerun/vpod it shows the original first
+//! cargo run -p unvriscol --example incident        # in host/; where VPOD names a checkout of capsulerun/vpod it shows the original first
 //! ```
 use unvriscol::{AluKind, BlockCache, Error, Op, alu, decode_block};
 

@@ -1,4 +1,4 @@
-//! Blocks: document 01's record of 1,040 bytes, and the same by value with the original's fields.
+//! Blocks: the record of 1,040 bytes (docs/FORMATS.md, "The block record"), and the same by value with the original's fields.
 use crate::{DecodedInsn, Error, door};
 use std::fmt;
 
@@ -45,7 +45,7 @@ impl Block {
     pub const LEN: usize = Self::HEAD + MAX_BLOCK_OPS * DecodedInsn::LEN;
     const HEAD: usize = 16;
 
-    /// The block record for an address: document 01's 1,040 bytes.
+    /// The block record for an address.
     pub fn to_record(&self, address: u64) -> [u8; Self::LEN] {
         let mut record = [0; Self::LEN];
         record[..8].copy_from_slice(&address.to_le_bytes());
@@ -56,7 +56,7 @@ impl Block {
     }
 
     /// The block of a record; its address is left out. None where the length, the count or an op's record is not a block's, as in a store that
-    /// something else wrote on. The other rules of document 01, as on offsets, are not judged here.
+    /// something else wrote on. The other rules of docs/FORMATS.md, "Well-formed records", as on offsets, are not judged here.
     pub fn from_record(record: &[u8]) -> Option<Self> {
         let record: &[u8; Self::LEN] = record.try_into().ok()?;
         let number = |at| u16::from_le_bytes([record[at], record[at + 1]]);
@@ -128,7 +128,7 @@ mod tests {
     use super::*;
     use crate::{AluKind, Op};
 
-    /// Document 01's sample: addi a0, zero, 1 and ret.
+    /// addi a0, zero, 1 and ret.
     fn page() -> Vec<u8> {
         let mut page = vec![0; 4096];
         page[..6].copy_from_slice(&[0x13, 0x05, 0x10, 0x00, 0x82, 0x80]);

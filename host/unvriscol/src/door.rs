@@ -1,7 +1,7 @@
 //! The C functions themselves, as include/unvriscol.h declares them.
 use crate::Error;
 
-/// Document 01's number, and the value beside it, which is 0 at every number but 0.
+/// A number of docs/FORMATS.md, "Answer numbers", and the value beside it, which is 0 at every number but 0.
 #[repr(C)]
 #[derive(Clone, Copy, Debug, PartialEq, Eq)]
 pub struct Answer {

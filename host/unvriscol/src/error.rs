@@ -1,6 +1,6 @@
 use std::fmt;
 
-/// What a call answers instead of a result: document 01's numbers but 0.
+/// What a call answers instead of a result: the numbers of docs/FORMATS.md, "Answer numbers", but 0.
 #[derive(Clone, Copy, Debug, PartialEq, Eq, Hash)]
 #[repr(u64)]
 pub enum Error {
@@ -37,7 +37,7 @@ impl Error {
         Self::Miss,
     ];
 
-    /// Document 01's number.
+    /// The number that the C functions answer.
     pub fn number(self) -> u64 {
         self as u64
     }
@@ -47,7 +47,7 @@ impl Error {
     pub(crate) fn check(number: u64) -> Result<(), Self> {
         match number {
             0 => Ok(()),
-            // Every number that a call gives is proved to be document 01's.
+            // Every number that a call gives is proved to be one of these.
             _ => Err(Self::ALL[number as usize - 1]),
         }
     }

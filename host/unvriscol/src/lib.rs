@@ -3,44 +3,20 @@
 //! an import.
 //!
 //! ```
-//! use unvriscol::{AluKind, Error, Op, alu, decode_halfword, decode_word};
+#![doc = include_str!("../examples/start.rs")]
+//! ```
 //!
-//! // addi a0, zero, 1
+//! A decoded op is also the record of sixteen bytes that the C functions write, and what is refused is an [`Error`]:
+//!
+//! ```
+//! use unvriscol::{AluKind, Error, alu, decode_halfword, decode_word};
+//!
 //! let decoded = decode_word(0x0010_0513)?;
-//! assert_eq!(decoded.op, Op::AluImm { kind: AluKind::Add, rd: 10, rs1: 0, imm: 1 });
-//! assert_eq!((decoded.pc_off, decoded.ilen), (0, 4));
-//!
-//! // The same as document 01's record of sixteen bytes.
 //! assert_eq!(decoded.to_record(), [2, 0, 10, 0, 0, 4, 0, 0, 1, 0, 0, 0, 0, 0, 0, 0]);
 //!
 //! // c.ebreak has no op, and multiply is not taken.
 //! assert_eq!(decode_halfword(0x9002), Err(Error::NothingThere));
 //! assert_eq!(alu(AluKind::Mul, 6, 7), Err(Error::NoKind));
-//!
-//! assert_eq!(alu(AluKind::Sra, 1 << 63, 1)?, 0xC000_0000_0000_0000);
-//! # Ok::<(), Error>(())
-//! ```
-//!
-//! The cache is one store of bytes. What the original's core does at a fetch, and a write that drops what was cached:
-//!
-//! ```
-//! use unvriscol::{BlockCache, Error, decode_block};
-//!
-//! // Two pages from 0x8000_0000 on, with addi a0, zero, 1 and ret at the start.
-//! let base = 0x8000_0000;
-//! let mut memory = vec![0; 8192];
-//! memory[..6].copy_from_slice(&[0x13, 0x05, 0x10, 0x00, 0x82, 0x80]);
-//!
-//! let mut blocks = BlockCache::new(14, base, 2)?;
-//! assert!(blocks.lookup(base).is_none());
-//! let decoded = decode_block(&(&memory[..], base), base).expect("two ops");
-//! let cached = blocks.insert(base, decoded);
-//! assert_eq!((cached.ops.len(), cached.byte_len), (2, 6));
-//! assert_eq!(blocks.lookup(base), Some(cached));
-//!
-//! // c.nop in place of the first halfword: the page's blocks are gone, after a look at all 2^14 slots.
-//! assert_eq!(blocks.guest_write(&mut memory, base, 2, 0x0001)?, 16_384);
-//! assert!(blocks.lookup(base).is_none());
 //! # Ok::<(), Error>(())
 //! ```
 //!

@@ -1,6 +1,6 @@
 //! Ops with the original's names, and the way from an op record to an op and back.
 
-/// An enum whose positions are document 01's numbers, with the way back from a number.
+/// An enum whose positions are the numbers of docs/FORMATS.md, "Kinds", with the way back from a number.
 macro_rules! kinds {
     ($(#[$doc:meta])* pub enum $name:ident { $($kind:ident),* $(,)? }) => {
         $(#[$doc])*
@@ -114,7 +114,7 @@ impl DecodedInsn {
     /// The length of an op record.
     pub const LEN: usize = 16;
 
-    /// The op record: document 01's sixteen bytes.
+    /// The op record: the sixteen bytes of docs/FORMATS.md, "The op record".
     pub fn to_record(&self) -> [u8; Self::LEN] {
         let (op, kind, rd, rs1, rs2, imm) = match self.op {
             Op::Lui { rd, imm } => (0, 0, rd, 0, 0, imm),

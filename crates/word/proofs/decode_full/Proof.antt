@@ -8,5 +8,5 @@ pub decode-full-spec : {M : Type 1} → statement M
 decode-full-spec =
     tie.close
     (tie.spec
-    (λ c κs. search needs) (λ c κs. search needs) (λ c κs. search needs) (λ c κs. search needs) (λ c. search needs) (λ c κs. search needs)
+    (λ c κs. search needs) (λ c κs. search needs) (λ c κs. search needs) (λ c κs. search needs) (λ c. search needs) (λ c κs. search needs) (λ c κs. search needs)
     (λ c. cc))

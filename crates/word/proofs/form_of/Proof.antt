@@ -1,4 +1,4 @@
--- `word::form_of` meets its contract: each arm's number picks its row. The row of OP_IMM is not asked for.
+-- `word::form_of` meets its contract: each arm's number picks its row.
 -- Assumes nothing.
 use Rattle.bits.proofs.Cases.{none-of}
 use Rattle.word.specs.Word.{formBy, opcodeRows, jalrRows}
@@ -12,8 +12,8 @@ unfolding formBy
 form-of-spec =
     tie.close
     (tie.spec
-    (λ c κs. search needs) (λ c κs. search needs) (λ c κs. search needs) (λ c κs. search needs) (λ c. search needs) (λ c. search needs) (λ c κs. search needs)
-    (λ c. search needs) (λ c. search needs) (λ c κs. search needs)
+    (λ c κs. search needs) (λ c κs. search needs) (λ c κs. search needs) (λ c. search needs) (λ c. search needs) (λ c κs. search needs) (λ c κs. search needs)
+    (λ c. search needs) (λ c. search needs) (λ c κs. search needs) (λ c. search needs) (λ c. search needs) (λ c κs. search needs)
     (λ c. rw (c .match .keys1))
     (λ c. rw (c .match .keys2))
     (λ c. rw (c .match .keys3))
@@ -22,11 +22,10 @@ form-of-spec =
     (λ c. rw (c .before .match .keys5) (c .branch-form .ensures))
     (λ c. rw (c .before .match .keys6) (c .load-form .ensures))
     (λ c. rw (c .before .match .keys7) (c .store-form .ensures))
-    (λ c. rw (c .before .match .keys8) (c .imm32-form .ensures))
-    (λ c. rw (c .before .match .keys9) (c .reg-form .ensures))
-    (λ c. rw (c .before .match .keys10) (c .reg32-form .ensures))
+    (λ c. rw (c .before .match .keys8) (c .imm-form .ensures))
+    (λ c. rw (c .before .match .keys9) (c .imm32-form .ensures))
+    (λ c. rw (c .before .match .keys10) (c .reg-form .ensures))
+    (λ c. rw (c .before .match .keys11) (c .reg32-form .ensures))
     (λ c.
     let at = c .before .args in
-    let other = c .match .rest in
-    none-of (at .op) (opcodeRows (at .funct3) (at .funct7) (at .rs2)) NoForm
-    ((((other .0 .0 .0, c .before .pre .3), other .0 .0 .1), other .0 .1), other .1)))
+    none-of (at .op) (opcodeRows (at .funct3) (at .funct7) (at .rs2)) NoForm (c .match .rest)))
