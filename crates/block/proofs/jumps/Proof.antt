@@ -8,5 +8,5 @@ pub jumps-spec : {M : Type 1} → statement M
 jumps-spec =
     tie.close
     (tie.spec
-    (λ c. rw (eq-eqb _ _ (c .if1 .taken)))
-    (λ c. rw (ne-eqb _ _ (c .if1 .left))))
+    (λ c. rw (eq-eqb (c .before .args .op) 7 (c .if1 .taken)))
+    (λ c. rw (ne-eqb (c .before .args .op) 7 (c .if1 .left))))

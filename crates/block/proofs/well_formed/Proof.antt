@@ -15,7 +15,7 @@ well-formed-spec =
     (λ c κs. search needs)
     (λ c. refuses (c .before .before .before .before .args .«record» .now) (c .before .before .before .before .args .address) (λ h. c .if2 .taken (c .before .doubleword-at .ensures ∙ h .addressed)))
     (λ c κs. search needs)
-    (λ c. refuses (c .before .before .before .before .before .before .args .«record» .now) (c .before .before .before .before .before .before .args .address) (λ h. c .if3 .taken (c .before .word-at .ensures ∙ h .zeros)))
+    (λ c. refuses (c .before .before .before .before .before .before .args .«record» .now) (c .before .before .before .before .before .before .args .address) (λ h. omega (arith, c .before .word-at .ensures, h .zeros)))
     (λ c κs. search needs) (λ c. search needs)
     (λ c. refuses (c .before .before .before .before .before .before .before .before .args .«record» .now) (c .before .before .before .before .before .before .before .before .args .address) (λ h. omega (arith, c .before .halfword-at .ensures, h .some)))
     (λ c. refuses (c .before .before .before .before .before .before .before .before .before .args .«record» .now) (c .before .before .before .before .before .before .before .before .before .args .address) (λ h. omega (arith, c .before .before .halfword-at .ensures, h .few)))
@@ -29,7 +29,7 @@ well-formed-spec =
     let head : Head (start .«record» .now) (start .address) = record {
       long = c .before .before .before .before .before .before .before .before .before .before .if1 .left;
       addressed = sym (c .before .before .before .before .before .before .before .before .before .doubleword-at .ensures) ∙ c .before .before .before .before .before .before .before .before .if2 .left;
-      zeros = sym (c .before .before .before .before .before .before .before .word-at .ensures) ∙ c .before .before .before .before .before .before .if3 .left;
+      zeros = omega (arith, c .before .before .before .before .before .before .before .word-at .ensures, c .before .before .before .before .before .before .if3 .left);
       some = rw many at (c .before .before .before .before .if4 .left);
       few = rw many at (c .before .before .before .if5 .left);
       in-page = rw len at (c .before .if6 .left);

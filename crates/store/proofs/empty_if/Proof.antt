@@ -1,7 +1,8 @@
 -- `store::empty_if` meets its contract: the test is the definition's.
 -- Assumes nothing.
-use mathlib.Core.Path.{sym, ap, _∙_}
-use Prim.Native.Nat.{ℕ, _/_}
+use mathlib.Core.Path.{_∙_}
+use Prim.Native.Nat.{_/_}
+use native.Mathlib.Omega.{arith}
 use borrow.Author.Tests.{eq-eqb, ne-eqb}
 use Rattle.bits.specs.Bytes.{doublewordAt}
 use Rattle.store.specs.Places.{emptied}
@@ -15,14 +16,14 @@ taken c =
     let test = c .before .before .before .before in
     let read = test .before in
     let a = read .before .before .before .args in
-    c .before .before .empty .ensures ∙ rw (eq-eqb (doublewordAt (a .place .now) 0 / 4096) (a .page) (ap (λ (x : ℕ). x / 4096) (sym (read .doubleword-at .ensures)) ∙ test .if1 .taken))
+    c .before .before .empty .ensures ∙ rw (eq-eqb (doublewordAt (a .place .now) 0 / 4096) (a .page) (omega (arith, read .doubleword-at .ensures)))
 
 left : tie.Need-returns-2
 unfolding emptied
 left c =
     let read = c .before in
     let a = read .before .before .before .args in
-    rw (ne-eqb (doublewordAt (a .place .now) 0 / 4096) (a .page) (λ e. c .if1 .left (ap (λ (x : ℕ). x / 4096) (read .doubleword-at .ensures) ∙ e)))
+    rw (ne-eqb (doublewordAt (a .place .now) 0 / 4096) (a .page) (λ e. omega (arith, read .doubleword-at .ensures)))
 
 pub empty-if-spec : {M : Type 1} → statement M
 empty-if-spec =

@@ -26,7 +26,7 @@ open-spec =
     (λ c. sym (opened-not _ (λ h. omega (arith, h .long))))
     (λ c. search needs) (λ c. omega (arith, c .shared-slice-known2 .given 6)) (λ c κs. search needs) (λ c κs. search needs) (λ c κs. search needs)
     (λ c. omega (arith, c .before .before .before .shared-slice-known2 .given 6)) (λ c. omega (arith, c .before .before .before .shared-slice-known2 .given 6))
-    (λ c. sym (opened-not _ (λ h. omega (arith, h .signed ∙ signature-is _))))
+    (λ c. sym (opened-not _ (λ h. omega (arith, c .before .before .before .before .shared-slice-known2 .given 6, h .signed ∙ signature-is _))))
     (λ c κs. search needs) (λ c κs. search needs)
     (λ c κs. rw (c .new .ensures) (bounds-are _ _ _ (sym (c .before .before .in-bounds .ensures) ∙ c .before .if3 .taken)))
     (λ c.
@@ -39,12 +39,12 @@ open-spec =
       long = omega arith;
       signed = sym (test .before .before .before .doubleword-at3 .ensures) ∙ test .before .before .if2 .left ∙ sym (signature-is _);
       bounded = ap within (sym (told read)) ∙ sym (test .before .in-bounds .ensures) ∙ test .if3 .taken;
-      exact = c .if4 .taken ∙ c .before .store-len .ensures ∙ ap storeLen same;
+      exact = omega (arith, c .before .store-len .ensures ∙ ap storeLen same);
     })))
     (λ c.
     let test = c .before .before .before in
     let same = c .before .before .new .ensures ∙ told (test .before .before .before .before) in
-    sym (opened-not _ (λ h. c .if4 .left (h .exact ∙ ap storeLen (sym same) ∙ sym (c .before .store-len .ensures)))))
+    sym (opened-not _ (λ h. omega (arith, h .exact ∙ ap storeLen (sym same) ∙ sym (c .before .store-len .ensures)))))
     (λ c.
     let read = c .before .before .before .before in
     sym (opened-not _ (λ h. true-false (c .before .in-bounds .ensures ∙ ap within (told read) ∙ h .bounded) (c .if3 .left)))))

@@ -1,8 +1,11 @@
 -- `write::judge_write` meets its contract: the four tests in their order.
 -- Assumes nothing.
 use mathlib.Core.Path.{_≡_, sym, _∙_}
+use mathlib.Core.Bool.{true, false}
+use Prim.Native.Nat.{_*_}
 use native.Mathlib.Omega.{arith}
 use borrow.Author.Tests.{eq-eqb, ne-eqb}
+use Rattle.block.specs.Memory.{spans}
 use Rattle.store.specs.declared.Opened.the-variants.{Sound}
 use Rattle.store.specs.Layout.{opened}
 use Rattle.cache.proofs.Checks.{opened-fits}
@@ -26,10 +29,18 @@ judge-write-spec =
     (λ c κs. search needs)
     (λ c.
     let size = c .before .before .before .before in
-    rw (good (size .before .before .before), eq-eqb _ _ (size .before .if1 .left), sym (size .good-size .ensures) ∙ c .before .before .before .if2 .taken, sym (c .before .spans .ensures) ∙ c .if3 .taken))
+    let known = size .before .before .before in
+    let a = known .before .before .before .before .before .args in
+    let g = known .before .g .given .0 .0 in
+    let inside : spans (4096 * g .pages) (g .base) (a .address) (a .n) ≡ true = sym (c .before .spans .ensures) ∙ c .if3 .taken in
+    rw (good known, eq-eqb _ _ (size .before .if1 .left), sym (size .good-size .ensures) ∙ c .before .before .before .if2 .taken, inside))
     (λ c.
     let size = c .before .before .before .before in
-    rw (good (size .before .before .before), eq-eqb _ _ (size .before .if1 .left), sym (size .good-size .ensures) ∙ c .before .before .before .if2 .taken, sym (c .before .spans .ensures) ∙ c .if3 .left))
+    let known = size .before .before .before in
+    let a = known .before .before .before .before .before .args in
+    let g = known .before .g .given .0 .0 in
+    let inside : spans (4096 * g .pages) (g .base) (a .address) (a .n) ≡ false = sym (c .before .spans .ensures) ∙ c .if3 .left in
+    rw (good known, eq-eqb _ _ (size .before .if1 .left), sym (size .good-size .ensures) ∙ c .before .before .before .if2 .taken, inside))
     (λ c.
     let size = c .before in
     rw (good (size .before .before .before), eq-eqb _ _ (size .before .if1 .left), sym (size .good-size .ensures) ∙ c .if2 .left)))
