@@ -18,7 +18,7 @@ use Rattle.store.specs.declared.Opened.the-variants.{Sound, NotAStore}
 use Rattle.store.proofs.Known.{bounds-are}
 use Rattle.store.proofs.Held.{place-long}
 use Rattle.store.proofs.View.{fitting-blank, fitting-flushed, header-long}
-use Rattle.cache.specs.Calls.{makeJudged, makeCall, insertJudged, insertedIn, insertBy, insertCall, watched, noticedIn, noticeBy, noticeCall, flushBy, flushCall}
+use Rattle.cache.specs.Calls.{makeCall, insertJudged, insertedIn, insertBy, insertCall, watched, noticedIn, noticeBy, noticeCall, flushBy, flushCall}
 use Rattle.cache.specs.declared.Judged.{Judged}
 use Rattle.cache.specs.declared.Judged.the-variants.{Accepted, Rejected}
 use Rattle.cache.proofs.Checks.{opened-fits, Taken, insert-taken}
@@ -27,7 +27,7 @@ use Rattle.write.specs.Write.{writeJudged, noticedPages, writeBy, writeCall}
 use Rattle.write.proofs.Granted.{Granted, write-granted}
 use Rattle.history.specs.History.{Event, inserted}
 use Rattle.guarantee.specs.Calls.{Use, lookup, insert, notice, flush, generation, write, Call, make, uses, Lent, storing, done, run}
-use Rattle.guarantee.specs.Past.{Past, unmade, since, pageOf, ifAccepted, events, grown, past, pastOf}
+use Rattle.guarantee.specs.Past.{Past, unmade, since, pageOf, events, grown, past, pastOf}
 use Rattle.guarantee.specs.Stands.{Stands, Follows}
 use Rattle.guarantee.proofs.Simulation.{make-keeps, flush-keeps, insert-keeps, notice-keeps, write-keeps}
 
@@ -153,14 +153,15 @@ pub record Kept (sLen mLen : ℕ) (p : Past) (l : Lent) : Type 0 where
   pub roomy : length (l .memory) ≡ mLen
   pub follows : Follows p (l .store)
 
-module _ (sLen mLen : ℕ) (p : Past) (l : Lent) (k : Kept sLen mLen p l) where
-  made-kept : (e base pages : ℕ) → Kept sLen mLen (ifAccepted (makeJudged e base pages sLen) (λ g. since g []) p) (storing l (makeCall e base pages (l .store) .1))
+module _ (sLen mLen : ℕ) (p : Past) (calls : List Call) (l : Lent) (k : Kept sLen mLen (past sLen mLen p calls) l) where
+  made-kept : (e base pages : ℕ) → Kept sLen mLen (past sLen mLen p (make e base pages ∷ calls)) (storing l (makeCall e base pages (l .store) .1))
+  unfolding past
   made-kept e base pages = go (inBounds e base pages) refl (eqb sLen (storeLen g)) refl
     where
       g : Geometry
       g = geometry e base pages
 
-      go : (x : Bool) → inBounds e base pages ≡ x → (z : Bool) → eqb sLen (storeLen g) ≡ z → Kept sLen mLen (ifAccepted (makeJudged e base pages sLen) (λ g. since g []) p) (storing l (makeCall e base pages (l .store) .1))
+      go : (x : Bool) → inBounds e base pages ≡ x → (z : Bool) → eqb sLen (storeLen g) ≡ z → Kept sLen mLen (past sLen mLen p (make e base pages ∷ calls)) (storing l (makeCall e base pages (l .store) .1))
       go true ex true ez =
           rw (k .stored, ex, ez) (record {
             stored = fitting-blank g (bounds-are e base pages ex) (header g 1) (header-long e base pages ex) .exact ∙ sym (eqb-true sLen (storeLen g) ez);
@@ -170,6 +171,7 @@ module _ (sLen mLen : ℕ) (p : Past) (l : Lent) (k : Kept sLen mLen p l) where
       go true ex false ez = rw (k .stored, ex, ez) k
       go false ex z ez = rw (k .stored, ex) k
 
+module _ (sLen mLen : ℕ) (p : Past) (l : Lent) (k : Kept sLen mLen p l) where
   used-kept : (c : Use) → Kept sLen mLen (grown mLen c p) (done c l .1)
   used-kept c = record { stored = length-store c l ∙ k .stored; roomy = length-room c l ∙ k .roomy; follows = go p (k .follows) }
     where
@@ -180,5 +182,5 @@ module _ (sLen mLen : ℕ) (p : Past) (l : Lent) (k : Kept sLen mLen p l) where
 pub kept : (p : Past) (l : Lent) → Follows p (l .store) → (calls : List Call) → Kept (length (l .store)) (length (l .memory)) (pastOf p calls l) (run calls l)
 unfolding past run
 kept p l y [] = record { stored = refl; roomy = refl; follows = y }
-kept p l y (make e base pages ∷ calls) = made-kept (length (l .store)) (length (l .memory)) (pastOf p calls l) (run calls l) (kept p l y calls) e base pages
+kept p l y (make e base pages ∷ calls) = made-kept (length (l .store)) (length (l .memory)) p calls (run calls l) (kept p l y calls) e base pages
 kept p l y (uses c ∷ calls) = used-kept (length (l .store)) (length (l .memory)) (pastOf p calls l) (run calls l) (kept p l y calls) c

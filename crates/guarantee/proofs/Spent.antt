@@ -62,7 +62,7 @@ module _ (p : Past) (l : Lent) (start : Follows p (l .store)) where
   unfolding past spent total
   paid [] = go p
     where
-      go : (p : Past) → Paid p (slotsReported p)
+      go : (p : Past) → Paid p (spent p [] l)
       go unmade = tt
       go (since g h) = refl
   paid (make e base pages ∷ calls) = go (makeJudged e base pages (length (l .store))) (pastOf p calls l) (paid calls)

@@ -96,11 +96,11 @@ module _ (slot page : ℕ → ℕ) where
   answers [] a = refl
   answers (inserted b q ∷ h) a = go (answers h a) (eqb (slot b) (slot a)) (eqb b a) refl refl
     where
-      go : found (places h (slot a)) a ≡ shown slot page h a → (t u : Bool) → eqb (slot b) (slot a) ≡ t → eqb b a ≡ u → found (cond t (full b q) (places h (slot a))) a ≡ cond u (some q) (cond t none (shown slot page h a))
-      go ih true true et eu = rw eu
-      go ih true false et eu = rw eu
+      go : found (places h (slot a)) a ≡ shown slot page h a → (t u : Bool) → eqb (slot b) (slot a) ≡ t → eqb b a ≡ u → found (places (inserted b q ∷ h) (slot a)) a ≡ shown slot page (inserted b q ∷ h) a
+      go ih true true et eu = rw (et, eu)
+      go ih true false et eu = rw (et, eu)
       go ih false true et eu = absurd (eqb-false (slot b) (slot a) et (ap slot (eqb-true b a eu)))
-      go ih false false et eu = ih
+      go ih false false et eu = rw (et, eu) ih
   answers (touched p ∷ h) a = go (answers h a) (marked slot page h p) refl (places h (slot a)) refl (in-place h (slot a))
     where
       -- an address in another page is not concerned, and one in the page has no unmarked place

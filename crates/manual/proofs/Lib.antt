@@ -1,0 +1,2 @@
+-- Examples from outside, which hold of the definitions.
+pub mod Examples
