@@ -144,7 +144,7 @@ enum uv_branch_kind {
 #define UV_HEADER_AT_GENERATION 24 /* 8 bytes */
 
 /* Where the places begin: behind the header and the bitmap, which has 8 bytes for each begun 64 pages. */
-#define UV_FRONT(pages) (UV_HEADER + ((pages) + 63) / 64 * 8)
+#define UV_FRONT(pages) (UV_HEADER + ((size_t)(pages) + 63) / 64 * 8)
 
 /* The length of a store with 2^e slots for a memory of so many pages. */
 #define UV_STORE(e, pages) (UV_FRONT(pages) + ((size_t)UV_BLOCK_RECORD << (e)))

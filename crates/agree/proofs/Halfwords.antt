@@ -125,9 +125,9 @@ kept true true op other h = absurd (true≢false h)
 kept true false op other h = refl
 kept false y op other h = refl
 
-jumps : (w : ℕ) → Alike w 2 4
-jumps w h =
-    each 2 (λ bit. (eqb bit 0 && eqb (rs2 w) 0 && eqb (rd w) 0) ≡ false → cond (eqb bit 0) (rust.jrMv w) (rust.jalrAdd w) ≡ case bit (manual.jumps w) None)
+jump-rows : (w : ℕ) → Alike w 2 4
+jump-rows w h =
+    each 2 (λ bit. (eqb bit 0 && eqb (rs2 w) 0 && eqb (rd w) 0) ≡ false → cond (eqb bit 0) (rust.jrMv w) (rust.jalrAdd w) ≡ case bit (manual.jumpRows w) None)
     ((tt, kept (eqb (rs2 w) 0) (eqb (rd w) 0) _ _), λ h. rw (none-if (eqb (rd w) 0)))
     (bitsAt w 12 1) (omega arith) (not-asked (eqb (bitsAt w 12 1) 0 && eqb (rs2 w) 0 && eqb (rd w) 0) _ (rw (h .0, h .1) at (h .2)))
 
@@ -144,7 +144,7 @@ quadrant1 w =
 quadrant2 : (w f3 : ℕ) → f3 < 8 → Alike w 2 f3
 quadrant2 w =
     each 8 (Alike w 2)
-    ((((((((tt, λ h. rw (imm6 w)), λ h. refl), λ h. rw (not-asked (eqb (rd w) 0) _ (rw (h .0, h .1) at (h .2)), lwsp w)), λ h. rw (not-asked (eqb (rd w) 0) _ (rw (h .0, h .1) at (h .2)), ldsp w)), jumps w), λ h. refl), λ h. rw (swsp w)), λ h. rw (sdsp w))
+    ((((((((tt, λ h. rw (imm6 w)), λ h. refl), λ h. rw (not-asked (eqb (rd w) 0) _ (rw (h .0, h .1) at (h .2)), lwsp w)), λ h. rw (not-asked (eqb (rd w) 0) _ (rw (h .0, h .1) at (h .2)), ldsp w)), jump-rows w), λ h. refl), λ h. rw (swsp w)), λ h. rw (sdsp w))
 
 quadrant3 : (w f3 : ℕ) → f3 < 8 → Alike w 3 f3
 quadrant3 w = each 8 (Alike w 3) ((((((((tt, λ h. refl), λ h. refl), λ h. refl), λ h. refl), λ h. refl), λ h. refl), λ h. refl), λ h. refl)

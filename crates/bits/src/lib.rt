@@ -26,6 +26,13 @@ pub fn zero_extend(val: u32) -> i64
     val as i64
 }
 
+// A byte as a number. Of a byte that was read from a slice, the cast alone would lack the fact that it fits.
+pub fn as_u64(byte: u8) -> u64
+    ensures { λ r. ⌜ r ≡ byte ⌝ }
+{
+    byte as u64
+}
+
 // All of src over all of dst.
 pub fn copy_all(src: &[u8], dst: &mut [u8])
     requires { ⌜ length (now dst) ≡ length (now src) ⌝ }

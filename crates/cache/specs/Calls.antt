@@ -7,7 +7,7 @@ use lib.Dec.{eqb}
 use lib.ListN.{length, take}
 use Rattle.bits.specs.Bytes.{doublewordAt, patch}
 use Rattle.block.specs.WellFormed.{wellFormed}
-use Rattle.store.specs.Layout.{headLen, header, inBounds, front, storeLen, geometry, opened, holds, memoryPage, slotOf, placeAt, generationOf, bumped}
+use Rattle.store.specs.Layout.{headerLen, header, inBounds, front, storeLen, geometry, opened, holds, memoryPage, slotOf, placeAt, generationOf, bumped}
 use Rattle.store.specs.Places.{pageBit, withBit, placeFor, emptied, eachPlace, blank}
 use Rattle.store.specs.declared.Geometry.{Geometry}
 use Rattle.store.specs.declared.Opened.{Opened}
@@ -92,7 +92,7 @@ noticeCall s a = noticeBy (opened s) s a
 
 -- Flush: 1. A zero bitmap, empty places; the header stays.
 abbrev pub flushBy : Opened → List ℕ → Answer × List ℕ
-flushBy (Sound g) s = (Done, take headLen s ++ blank g)
+flushBy (Sound g) s = (Done, take headerLen s ++ blank g)
 flushBy NotAStore s = (Refused NoStore, s)
 
 abbrev pub flushCall : List ℕ → Answer × List ℕ

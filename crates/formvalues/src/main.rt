@@ -9,7 +9,7 @@ fn formed(page: &[u8], base: u64, address: u64) {
     number(bits::doubleword_at(&lent, 0), b' ');
     number(bits::halfword_at(&lent, 8) as u64, b' ');
     number(bits::halfword_at(&lent, 10) as u64, b' ');
-    number(lent[16] as u64, b'\n');
+    number(bits::as_u64(lent[16]), b'\n');
 }
 
 fn page_of(low: u8, high: u8) -> [u8; 4096] {
@@ -52,7 +52,7 @@ fn short() {
     let mut lent = [170u8; 1039];
     let answer = form::form(&page, 0, 0, &mut lent);
     number(answer.number(), b' ');
-    number(lent[0] as u64, b'\n');
+    number(bits::as_u64(lent[0]), b'\n');
 }
 
 fn main() {

@@ -31,7 +31,7 @@ use Rattle.write.proofs.Granted.{Granted}
 use Rattle.history.specs.History.{Event, inserted, touched, flushed, Every, none-left, and-then, OfInserted, shown}
 use Rattle.history.proofs.Sentences.{no-some, shown-was}
 use Rattle.guarantee.specs.Calls.{Use, lookup, insert, notice, flush, generation, write, Call, make, uses, Lent, done, run, lookedUp}
-use Rattle.guarantee.specs.Past.{Past, unmade, since, pageOf, ifAccepted, crossed, events, told, past, pastOf}
+use Rattle.guarantee.specs.Past.{Past, unmade, since, pageOf, ifAccepted, crossed, events, grown, past, pastOf}
 use Rattle.guarantee.specs.Stands.{Possible, Stands, Follows}
 use Rattle.guarantee.specs.Honest.{Former, Local, Fresh, Honest}
 use Rattle.guarantee.proofs.Simulation.{fits-accepted}
@@ -154,7 +154,7 @@ module _ (form : Former) where
           go (Rejected why) z i = i
       fresh (uses c ∷ calls) o = go (pastOf p calls l) refl (kept p l start calls .follows) (fresh calls (o .1))
         where
-          go : (z : Past) → pastOf p calls l ≡ z → Follows z (run calls l .store) → Fresh form z (run calls l .memory) → Fresh form (told (length (l .memory)) c z) (done c (run calls l) .1 .memory)
+          go : (z : Past) → pastOf p calls l ≡ z → Follows z (run calls l .store) → Fresh form z (run calls l .memory) → Fresh form (grown (length (l .memory)) c z) (done c (run calls l) .1 .memory)
           go unmade e y i = tt
           go (since g h) e y i =
               subst (λ (n : ℕ). Every (Held g (run calls l .memory)) (events n g c) → Fresh form (since g (events n g c ++ h)) (done c (run calls l) .1 .memory))

@@ -27,7 +27,7 @@ use Rattle.write.specs.Write.{writeJudged, noticedPages, writeBy, writeCall}
 use Rattle.write.proofs.Granted.{Granted, write-granted}
 use Rattle.history.specs.History.{Event, inserted}
 use Rattle.guarantee.specs.Calls.{Use, lookup, insert, notice, flush, generation, write, Call, make, uses, Lent, storing, done, run}
-use Rattle.guarantee.specs.Past.{Past, unmade, since, pageOf, ifAccepted, events, told, past, pastOf}
+use Rattle.guarantee.specs.Past.{Past, unmade, since, pageOf, ifAccepted, events, grown, past, pastOf}
 use Rattle.guarantee.specs.Stands.{Stands, Follows}
 use Rattle.guarantee.proofs.Simulation.{make-keeps, flush-keeps, insert-keeps, notice-keeps, write-keeps}
 
@@ -170,10 +170,10 @@ module _ (sLen mLen : ℕ) (p : Past) (l : Lent) (k : Kept sLen mLen p l) where
       go true ex false ez = rw (k .stored, ex, ez) k
       go false ex z ez = rw (k .stored, ex) k
 
-  used-kept : (c : Use) → Kept sLen mLen (told mLen c p) (done c l .1)
+  used-kept : (c : Use) → Kept sLen mLen (grown mLen c p) (done c l .1)
   used-kept c = record { stored = length-store c l ∙ k .stored; roomy = length-room c l ∙ k .roomy; follows = go p (k .follows) }
     where
-      go : (p : Past) → Follows p (l .store) → Follows (told mLen c p) (done c l .1 .store)
+      go : (p : Past) → Follows p (l .store) → Follows (grown mLen c p) (done c l .1 .store)
       go unmade y = tt
       go (since g h) y = subst (λ (n : ℕ). Stands g (events n g c ++ h) (done c l .1 .store)) (k .roomy) (keeps g h l y c)
 

@@ -17,7 +17,7 @@ use Rattle.write.specs.Write.{writeJudged}
 use Rattle.history.specs.History.{Event, inserted, touched, flushed, insertions, examined, total}
 use Rattle.history.proofs.Bound.{bound}
 use Rattle.guarantee.specs.Calls.{Use, lookup, insert, notice, flush, generation, write, Call, make, uses, Lent, done, run}
-use Rattle.guarantee.specs.Past.{Past, unmade, since, pageOf, ifAccepted, events, told, past, pastOf}
+use Rattle.guarantee.specs.Past.{Past, unmade, since, pageOf, ifAccepted, events, grown, past, pastOf}
 use Rattle.guarantee.specs.Stands.{Stands, Follows}
 use Rattle.guarantee.specs.Answers.{report, reports, writeAnswered, slotsReported, spent}
 use Rattle.guarantee.proofs.Simulation.{notice-reports, alone}
@@ -72,7 +72,7 @@ module _ (p : Past) (l : Lent) (start : Follows p (l .store)) where
       go (Rejected why) z i = i
   paid (uses c ∷ calls) = go (pastOf p calls l) (kept p l start calls .follows) (paid calls)
     where
-      go : (z : Past) → Follows z (run calls l .store) → Paid z (spent p calls l) → Paid (told (length (l .memory)) c z) (done c (run calls l) .0 + spent p calls l)
+      go : (z : Past) → Follows z (run calls l .store) → Paid z (spent p calls l) → Paid (grown (length (l .memory)) c z) (done c (run calls l) .0 + spent p calls l)
       go unmade y i = tt
       go (since g h) y i =
           ap₂ _+_ (reported g h (run calls l) y c ∙ ap (λ (n : ℕ). reports g h (events n g c) .examined) (kept p l start calls .roomy)) i

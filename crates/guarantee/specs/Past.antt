@@ -32,7 +32,7 @@ ifAccepted (Rejected why) x y = y
 abbrev pub crossed : ℕ → ℕ → List Event
 crossed a b = cond (eqb (pageOf a) (pageOf b)) (touched (pageOf a) ∷ []) (touched (pageOf b) ∷ touched (pageOf a) ∷ [])
 
--- the events of a call, the newest first, on a store of this geometry and a memory of `room` bytes; a refusal is none
+-- the events of a call, the newest first, on a store of this geometry and a memory of `mLen` bytes; a refusal is none
 unfoldable pub events : ℕ → Geometry → Use → List Event
 events mLen g (lookup a) = []
 events mLen g (insert a rec) = ifAccepted (insertJudged (Sound g) a rec) (λ k. inserted a rec ∷ []) []
@@ -42,15 +42,15 @@ events mLen g generation = []
 events mLen g (write a n v) = ifAccepted (writeJudged (Sound g) mLen a n) (λ k. crossed a (a + n - 1)) []
 
 -- what a call adds to a past
-abbrev pub told : ℕ → Use → Past → Past
-told mLen c unmade = unmade
-told mLen c (since g h) = since g (events mLen g c ++ h)
+abbrev pub grown : ℕ → Use → Past → Past
+grown mLen c unmade = unmade
+grown mLen c (since g h) = since g (events mLen g c ++ h)
 
--- the past of a store of `size` bytes after calls, from the past that it had before them; an accepted Make begins anew
+-- the past of a store of `sLen` bytes after calls, from the past that it had before them; an accepted Make begins anew
 unfoldable pub past : ℕ → ℕ → Past → List Call → Past
 past sLen mLen p [] = p
 past sLen mLen p (make e base pages ∷ calls) = ifAccepted (makeJudged e base pages sLen) (λ g. since g []) (past sLen mLen p calls)
-past sLen mLen p (uses c ∷ calls) = told mLen c (past sLen mLen p calls)
+past sLen mLen p (uses c ∷ calls) = grown mLen c (past sLen mLen p calls)
 
 -- by the lengths of the buffers, which no call changes
 abbrev pub pastOf : Past → List Call → Lent → Past

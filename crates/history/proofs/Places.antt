@@ -32,38 +32,38 @@ module _ (slot page : ℕ → ℕ) where
   places (flushed ∷ h) i = empty
 
   -- a place that holds an address is that of its slot, and its page is marked
-  abbrev Sound : List Event → ℕ → Place → Type 0
-  Sound h i empty = Unit {0}
-  Sound h i (full a r) = (slot a ≡ i) × (marked slot page h (page a) ≡ true)
+  abbrev InPlace : List Event → ℕ → Place → Type 0
+  InPlace h i empty = Unit {0}
+  InPlace h i (full a r) = (slot a ≡ i) × (marked slot page h (page a) ≡ true)
 
-  sound : (h : List Event) (i : ℕ) → Sound h i (places h i)
+  in-place : (h : List Event) (i : ℕ) → InPlace h i (places h i)
   unfolding places marked
-  sound [] i = tt
-  sound (inserted b q ∷ h) i = go (eqb (slot b) i) refl (places h i) (sound h i)
+  in-place [] i = tt
+  in-place (inserted b q ∷ h) i = go (eqb (slot b) i) refl (places h i) (in-place h i)
     where
       or-true : (t : Bool) {u : Bool} → u ≡ true → (t || u) ≡ true
       or-true true e = refl
       or-true false e = e
 
-      go : (t : Bool) → eqb (slot b) i ≡ t → (k : Place) → Sound h i k → Sound (inserted b q ∷ h) i (cond t (full b q) k)
+      go : (t : Bool) → eqb (slot b) i ≡ t → (k : Place) → InPlace h i k → InPlace (inserted b q ∷ h) i (cond t (full b q) k)
       go true et k s = (eqb-true (slot b) i et, rw (eq-eqb (page b) (page b) refl))
       go false et empty s = tt
       go false et (full a r) s = (s .0, or-true (eqb (page b) (page a)) (s .1))
-  sound (touched p ∷ h) i = go (marked slot page h p) refl (places h i) (sound h i)
+  in-place (touched p ∷ h) i = go (marked slot page h p) refl (places h i) (in-place h i)
     where
       other : (a : ℕ) → (p ≡ page a → ⊥) → marked slot page h (page a) ≡ true → (not (eqb p (page a)) && marked slot page h (page a)) ≡ true
       other a n m = rw (ne-eqb p (page a) n, m)
 
-      scanned : (a : ℕ) (r : List ℕ) (t : Bool) → eqb (page a) p ≡ t → Sound h i (full a r) → Sound (touched p ∷ h) i (cond t empty (full a r))
+      scanned : (a : ℕ) (r : List ℕ) (t : Bool) → eqb (page a) p ≡ t → InPlace h i (full a r) → InPlace (touched p ∷ h) i (cond t empty (full a r))
       scanned a r true et s = tt
       scanned a r false et s = (s .0, other a (λ e. eqb-false (page a) p et (sym e)) (s .1))
 
-      go : (t : Bool) → marked slot page h p ≡ t → (k : Place) → Sound h i k → Sound (touched p ∷ h) i (cond t (swept p k) k)
+      go : (t : Bool) → marked slot page h p ≡ t → (k : Place) → InPlace h i k → InPlace (touched p ∷ h) i (cond t (swept p k) k)
       go true et empty s = tt
       go true et (full a r) s = scanned a r (eqb (page a) p) refl s
       go false et empty s = tt
       go false et (full a r) s = (s .0, other a (λ e. true≢false (sym (s .1) ∙ ap (marked slot page h) (sym e) ∙ et)) (s .1))
-  sound (flushed ∷ h) i = tt
+  in-place (flushed ∷ h) i = tt
 
   -- what a place holds was inserted
   abbrev pub Was : (Event → Type 0) → Place → Type 0
@@ -101,7 +101,7 @@ module _ (slot page : ℕ → ℕ) where
       go ih true false et eu = rw eu
       go ih false true et eu = absurd (eqb-false (slot b) (slot a) et (ap slot (eqb-true b a eu)))
       go ih false false et eu = ih
-  answers (touched p ∷ h) a = go (answers h a) (marked slot page h p) refl (places h (slot a)) refl (sound h (slot a))
+  answers (touched p ∷ h) a = go (answers h a) (marked slot page h p) refl (places h (slot a)) refl (in-place h (slot a))
     where
       -- an address in another page is not concerned, and one in the page has no unmarked place
       gone : (b : ℕ) (r : List ℕ) (t u w : Bool) → eqb (page b) p ≡ t → eqb b a ≡ u → eqb p (page a) ≡ w → cond u (some r) none ≡ shown slot page h a → found (cond t empty (full b r)) a ≡ cond w none (shown slot page h a)
@@ -124,7 +124,7 @@ module _ (slot page : ℕ → ℕ) where
       nothing true ih = refl
       nothing false ih = ih
 
-      go : found (places h (slot a)) a ≡ shown slot page h a → (t : Bool) → marked slot page h p ≡ t → (k : Place) → places h (slot a) ≡ k → Sound h (slot a) k → found (cond t (swept p k) k) a ≡ cond (eqb p (page a)) none (shown slot page h a)
+      go : found (places h (slot a)) a ≡ shown slot page h a → (t : Bool) → marked slot page h p ≡ t → (k : Place) → places h (slot a) ≡ k → InPlace h (slot a) k → found (cond t (swept p k) k) a ≡ cond (eqb p (page a)) none (shown slot page h a)
       go ih true et empty ek s = nothing (eqb p (page a)) (rw ek at ih)
       go ih true et (full b r) ek s = gone b r (eqb (page b) p) (eqb b a) (eqb p (page a)) refl refl refl (rw ek at ih)
       go ih false et empty ek s = nothing (eqb p (page a)) (rw ek at ih)
@@ -134,7 +134,7 @@ module _ (slot page : ℕ → ℕ) where
   -- so a place is full exactly where the history shows its record, and empty where it shows none in the slot
   pub full-shown : (h : List Event) (i a : ℕ) (r : List ℕ) → places h i ≡ full a r → (slot a ≡ i) × (shown slot page h a ≡ some r)
   full-shown h i a r e =
-      let s : slot a ≡ i = subst (Sound h i) e (sound h i) .0 in
+      let s : slot a ≡ i = subst (InPlace h i) e (in-place h i) .0 in
       (s, sym (answers h a) ∙ ap (λ (k : Place). found k a) (ap (places h) s ∙ e) ∙ rw (eq-eqb a a refl))
 
   pub shown-full : (h : List Event) (a : ℕ) (r : List ℕ) → shown slot page h a ≡ some r → places h (slot a) ≡ full a r

@@ -24,21 +24,17 @@ fn signed(n: u64) {
     }
 }
 
-fn wide(x: u8) -> u64 {
-    x as u64
-}
-
 // The line of an op record.
 fn op_line(record: &[u8])
     requires { ⌜ length (now «record») ≡ 16 ⌝ }
 {
     number(bits::halfword_at(record, 6) as u64, b' ');
-    number(wide(record[5]), b' ');
-    number(wide(record[0]), b' ');
-    number(wide(record[1]), b' ');
-    number(wide(record[2]), b' ');
-    number(wide(record[3]), b' ');
-    number(wide(record[4]), b' ');
+    number(bits::as_u64(record[5]), b' ');
+    number(bits::as_u64(record[0]), b' ');
+    number(bits::as_u64(record[1]), b' ');
+    number(bits::as_u64(record[2]), b' ');
+    number(bits::as_u64(record[3]), b' ');
+    number(bits::as_u64(record[4]), b' ');
     signed(bits::doubleword_at(record, 8));
 }
 

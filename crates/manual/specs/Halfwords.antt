@@ -127,8 +127,8 @@ quadrant1 w =
     ∷ []
 
 -- C.JR (RES, rs1=0) and C.MV where bit 12 is 0; C.EBREAK where rs1 and rs2 are 0, C.JALR and C.ADD where it is 1
-abbrev pub jumps : ℕ → List (Row Decoded)
-jumps w =
+abbrev pub jumpRows : ℕ → List (Row Decoded)
+jumpRows w =
     (0 ⇒ cond (eqb (rs2 w) 0) (noneIf (eqb (rd w) 0) (Jalr 0 (rd w) (pos 0))) (Some (AluReg Add (rd w) 0 (rs2 w))))
     ∷ (1 ⇒ cond (eqb (rs2 w) 0) (noneIf (eqb (rd w) 0) (Jalr 1 (rd w) (pos 0))) (Some (AluReg Add (rd w) (rd w) (rs2 w))))
     ∷ []
@@ -139,7 +139,7 @@ quadrant2 w =
     (0b000 ⇒ Some (AluImm Sll (rd w) (rd w) (pos (imm6 w))))
     ∷ (0b010 ⇒ noneIf (eqb (rd w) 0) (Load Lw (rd w) 2 (pos (lwsp w))))
     ∷ (0b011 ⇒ noneIf (eqb (rd w) 0) (Load Ld (rd w) 2 (pos (ldsp w))))
-    ∷ (0b100 ⇒ case (slice w 12 12) (jumps w) None)
+    ∷ (0b100 ⇒ case (slice w 12 12) (jumpRows w) None)
     -- C.SWSP, C.SDSP
     ∷ (0b110 ⇒ Some (Store Sw 2 (rs2 w) (pos (swsp w))))
     ∷ (0b111 ⇒ Some (Store Sd 2 (rs2 w) (pos (sdsp w))))

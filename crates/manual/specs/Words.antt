@@ -22,7 +22,7 @@ use Rattle.op.specs.declared.Decoded.the-variants.{Some, None}
 use Rattle.manual.specs.Figures.{slice, imm, skip, figure}
 
 -- the format of an instruction's operands, with the op that it makes. I6 and I5 have a shift amount of six or five bits in place of
--- the immediate, and I0 has none: all twelve bits belong to the opcode
+-- the immediate, and I0 has none: all twelve bits belong to the opcode. NoRow where no row of the listings fits
 pub data Format : Type 0 where
   NoRow LUI AUIPC JAL JALR : Format
   B : BranchKind → Format

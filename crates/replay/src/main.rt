@@ -28,7 +28,7 @@ fn parsed(s: &[u8]) -> Entry
 {
     Entry {
         tag: s[0],
-        number: s[1] as u64,
+        number: bits::as_u64(s[1]),
         small: bits::halfword_at(s, 2) as u64,
         digest: bits::word_at(s, 4) as u64,
         a: bits::doubleword_at(s, 8),

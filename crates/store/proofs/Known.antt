@@ -92,7 +92,7 @@ slot-lt g a = mod-lt (a / 2) (pow-pos (g .e))
 pub slots-le : (g : Geometry) → Bounded g → 2 ^ g .e ≤ 16384
 slots-le g b = pow-mono (b .few)
 
--- a product with a place's size stays small
+-- a product with the stride stays small
 pub stride-small : (g : Geometry) (i : ℕ) → Bounded g → i ≤ 2 ^ g .e → g .stride * i ≤ 67108864
 stride-small g i b h =
     let w = slots-le g b in

@@ -25,8 +25,8 @@ pagesAt = 16
 abbrev pub generationAt : ℕ
 generationAt = 24
 
-abbrev pub headLen : ℕ
-headLen = 32
+abbrev pub headerLen : ℕ
+headerLen = 32
 
 -- "VBC", a zero, version 1, e, a zero
 abbrev pub signature : ℕ → List ℕ
@@ -41,7 +41,7 @@ inBounds e base pages = leb e 14 && goodMemory (4096 * pages) base
 
 -- where the places begin: behind the header, and eight bytes for each begun 64 pages
 abbrev pub front : ℕ → ℕ
-front pages = headLen + (pages + 63) / 64 * 8
+front pages = headerLen + (pages + 63) / 64 * 8
 
 abbrev pub storeLen : Geometry → ℕ
 storeLen g = front (g .pages) + g .stride * 2 ^ g .e
@@ -55,7 +55,7 @@ stated s = geometry (getD s eAt 0) (doublewordAt s baseAt) (doublewordAt s pages
 
 unfoldable pub isStore : List ℕ → Bool
 isStore s =
-    leb headLen (length s) && (eqb (doublewordAt s 0) (doublewordAt (signature (getD s eAt 0)) 0)
+    leb headerLen (length s) && (eqb (doublewordAt s 0) (doublewordAt (signature (getD s eAt 0)) 0)
     && (inBounds (getD s eAt 0) (doublewordAt s baseAt) (doublewordAt s pagesAt) && eqb (length s) (storeLen (stated s))))
 
 -- the header check

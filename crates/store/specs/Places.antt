@@ -8,12 +8,12 @@ use lib.Dec.{eqb}
 use lib.ListN.{length, getD, set, replicate}
 use Rattle.bits.specs.Bits.{bit}
 use Rattle.bits.specs.Bytes.{le, doublewordAt, part, patch}
-use Rattle.store.specs.Layout.{headLen, front, placeAt}
+use Rattle.store.specs.Layout.{headerLen, front, placeAt}
 use Rattle.store.specs.declared.Geometry.{Geometry}
 
 -- bit p mod 8 of byte p / 8 of the bitmap
 unfoldable pub pageBit : List ℕ → ℕ → Bool
-pageBit s p = eqb (bit (getD s (headLen + p / 8) 0) (p % 8)) 1
+pageBit s p = eqb (bit (getD s (headerLen + p / 8) 0) (p % 8)) 1
 
 -- a byte with bit k on or off
 unfoldable pub putBit : Bool → ℕ → ℕ → ℕ
@@ -21,7 +21,7 @@ putBit true k x = bitOr x (2 ^ k)
 putBit false k x = bitAnd x (255 - 2 ^ k)
 
 unfoldable pub withBit : List ℕ → ℕ → Bool → List ℕ
-withBit s p on = set s (headLen + p / 8) (putBit on (p % 8) (getD s (headLen + p / 8) 0))
+withBit s p on = set s (headerLen + p / 8) (putBit on (p % 8) (getD s (headerLen + p / 8) 0))
 
 -- the bytes of slot i's place
 abbrev pub placeIn : Geometry → List ℕ → ℕ → List ℕ
@@ -58,4 +58,4 @@ copies (suc n) p = p ++ copies n p
 
 -- a zero bitmap and empty places: all of a new or flushed store behind its header
 abbrev pub blank : Geometry → List ℕ
-blank g = replicate (front (g .pages) - headLen) 0 ++ copies (2 ^ g .e) (emptyPlace (g .stride))
+blank g = replicate (front (g .pages) - headerLen) 0 ++ copies (2 ^ g .e) (emptyPlace (g .stride))

@@ -5,7 +5,7 @@ ghost use mathlib.Core.List.{_++_};
 ghost use Prim.Native.Nat.{_+_, _-_, _*_, _/_, _^_, _≤_, _<_};
 ghost use lib.ListN.{length, take, replicate};
 ghost use Rattle.bits.specs.Bytes.{part, patch};
-ghost use Rattle.store.specs.Layout.{headLen, header, inBounds, front, storeLen, geometry, opened, Bounded, Fitting, holds, memoryPage, slotOf, placeAt, generationOf, bumped};
+ghost use Rattle.store.specs.Layout.{headerLen, header, inBounds, front, storeLen, geometry, opened, Bounded, Fitting, holds, memoryPage, slotOf, placeAt, generationOf, bumped};
 ghost use Rattle.store.specs.Places.{pageBit, putBit, withBit, emptyPlace, emptied, vacated, eachPlace, blank};
 use block::MAX_PAGES;
 use block::PAGE;
@@ -20,7 +20,7 @@ const PAGES_AT: usize = 16;
 
 const GENERATION_AT: usize = 24;
 
-const HEAD: usize = 32;
+const HEADER: usize = 32;
 
 // The header's first eight bytes as a number: "VBC", a zero, version 1; then e, and a zero.
 const SIGNATURE: u64 = 0x1_0043_4256;
@@ -79,7 +79,7 @@ impl Geometry {
         requires { ⌜ self .pages ≤ 65536 ⌝ }
         ensures { λ r. ⌜ (r ≡ front (self .pages)) × (r ≤ 8224) ⌝ }
     {
-        HEAD + ((self.pages + 63) / 64 * 8) as usize
+        HEADER + ((self.pages + 63) / 64 * 8) as usize
     }
 
     // The store's length.
@@ -120,7 +120,7 @@ impl Geometry {
 pub fn open(store: &[u8]) -> Opened
     ensures { λ r. ⌜ r ≡ opened (now (store .entry)) ⌝ }
 {
-    if store.len() < HEAD {
+    if store.len() < HEADER {
         return Opened::NotAStore;
     }
     let e = store[E_AT] as u64;
@@ -150,10 +150,10 @@ fn mask(k: u64) -> u8
 
 // Whether the page, counted from the base, has its bit set.
 pub fn page_bit(store: &[u8], page: u64) -> bool
-    requires { ⌜ headLen + page / 8 < length (now store) ⌝ }
+    requires { ⌜ headerLen + page / 8 < length (now store) ⌝ }
     ensures { λ r. ⌜ r ≡ pageBit (now (store .entry)) page ⌝ }
 {
-    let i = (HEAD as u64 + page / 8) as usize;
+    let i = (HEADER as u64 + page / 8) as usize;
     store[i] / mask(page % 8) % 2 == 1
 }
 
@@ -167,16 +167,16 @@ fn put_bit(byte: u8, k: u64, on: bool) -> u8
 
 // The page's bit becomes `on`.
 pub fn set_bit(store: &mut [u8], page: u64, on: bool)
-    requires { ⌜ headLen + page / 8 < length (now store) ⌝ }
+    requires { ⌜ headerLen + page / 8 < length (now store) ⌝ }
     ensures { λ _. ⌜ now (store .exit) ≡ withBit (now (store .entry)) page on ⌝ }
 {
-    let i = (HEAD as u64 + page / 8) as usize;
+    let i = (HEADER as u64 + page / 8) as usize;
     store[i] = put_bit(store[i], page % 8, on);
 }
 
-// How many insertions there were, wrapping.
+// The header's generation.
 pub fn generation(store: &[u8]) -> u64
-    requires { ⌜ headLen ≤ length (now store) ⌝ }
+    requires { ⌜ headerLen ≤ length (now store) ⌝ }
     ensures { λ r. ⌜ r ≡ generationOf (now (store .entry)) ⌝ }
 {
     bits::doubleword_at(store, GENERATION_AT)
@@ -184,7 +184,7 @@ pub fn generation(store: &[u8]) -> u64
 
 // The generation goes one up.
 pub fn bump(store: &mut [u8])
-    requires { ⌜ headLen ≤ length (now store) ⌝ }
+    requires { ⌜ headerLen ≤ length (now store) ⌝ }
     ensures { λ _. ⌜ now (store .exit) ≡ bumped (now (store .entry)) ⌝ }
 {
     let next = std::num::wrapping_add_u64(generation(store), 1);
@@ -215,7 +215,7 @@ fn empty_at(store: &mut [u8], at: usize, stride: usize, page: u64)
     empty_if(&mut store[at..at + stride], page);
 }
 
-// Empties those of n places of `size` bytes from `first` on that have an address in the page, which is counted from address 0.
+// Empties those of n places of `stride` bytes from `first` on that have an address in the page, which is counted from address 0.
 pub fn empty_places(store: &mut [u8], first: usize, stride: usize, n: usize, page: u64)
     requires { ⌜ (8 ≤ stride) × (first + stride * n ≤ length (now store)) ⌝ }
     ensures { λ _. ⌜ now (store .exit) ≡ eachPlace (emptied page) first stride n (now (store .entry)) ⌝ }
@@ -254,15 +254,15 @@ fn vacate_places(store: &mut [u8], first: usize, stride: usize, n: usize)
 // No bit set, all places empty; the header stays. Zeros go over all of it at once.
 pub fn wipe(store: &mut [u8], g: Geometry)
     requires { ⌜ Fitting g (now store) ⌝ }
-    ensures { λ _. ⌜ now (store .exit) ≡ take headLen (now (store .entry)) ++ blank g ⌝ }
+    ensures { λ _. ⌜ now (store .exit) ≡ take headerLen (now (store .entry)) ++ blank g ⌝ }
 {
-    clear_from(store, HEAD);
+    clear_from(store, HEADER);
     vacate_places(store, g.front(), g.stride, g.slots());
 }
 
 // The header of a new store.
 pub fn put_header(store: &mut [u8], g: Geometry)
-    requires { ⌜ (headLen ≤ length (now store)) × (g .e ≤ 14) ⌝ }
+    requires { ⌜ (headerLen ≤ length (now store)) × (g .e ≤ 14) ⌝ }
     ensures { λ _. ⌜ now (store .exit) ≡ patch (now (store .entry)) 0 (header g 1) ⌝ }
 {
     bits::put_doubleword(store, 0, SIGNATURE + g.e * E_UNIT);

@@ -9,8 +9,8 @@ fn line(number: u64, value: u64) {
     io::write_all(STDOUT_FILENO, b"\n");
 }
 
-// The length that Make asks for, and whether two addresses share a slot.
-fn size(e: u64, pages: u64) {
+// The length that Make asks for.
+fn length(e: u64, pages: u64) {
     if store::in_bounds(e, 0, pages) {
         line(0, Geometry::new(e, 0, pages).store_len() as u64);
     } else {
@@ -18,6 +18,7 @@ fn size(e: u64, pages: u64) {
     }
 }
 
+// Where the places of two addresses begin: whether they share a slot.
 fn share(e: u64, a: u64, b: u64) {
     if store::in_bounds(e, 0, 65536) {
         let g = Geometry::new(e, 0, 65536);
@@ -122,10 +123,10 @@ fn no_store() {
 }
 
 fn main() {
-    size(2, 1);
-    size(14, 65536);
-    size(15, 1);
-    size(2, 0);
+    length(2, 1);
+    length(14, 65536);
+    length(15, 1);
+    length(2, 0);
     share(14, 0x100, 0x100 + 32768);
     share(14, 0x100, 0x101);
     share(14, 0x100, 0x102);

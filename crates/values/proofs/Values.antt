@@ -4,8 +4,8 @@ use mathlib.Core.Path.{_≡_, refl}
 use mathlib.Core.List.{map}
 use lib.Count.{leadingZeros}
 use Rattle.word.specs.Word.{formBy}
-use Rattle.values.specs.Values.{found, stated, values}
+use Rattle.values.specs.Values.{given, expected, values}
 
-pub values-hold : map found values ≡ map stated values
+pub values-hold : map given values ≡ map expected values
 unfolding formBy leadingZeros
 values-hold = refl

@@ -18,23 +18,23 @@ pub data Question : Type 0 where
   halfword word : ℕ → Question
   alu : AluKind → ℕ → ℕ → Question
 
-pub data Answer : Type 0 where
-  reads : Decoded → Answer
-  computes : Valued → Answer
+pub data Reply : Type 0 where
+  reads : Decoded → Reply
+  computes : Valued → Reply
 
-pub data Row : Type 0 where
-  _is_ : Question → Answer → Row
+pub data Line : Type 0 where
+  _is_ : Question → Reply → Line
 
 infix 5 _is_
-abbrev pub found : Row → Answer
-found (halfword h is a) = reads (rustHalf h)
-found (word w is a) = reads (rustWord w)
-found (alu kind a b is c) = computes (rustAlu kind a b)
+abbrev pub given : Line → Reply
+given (halfword h is a) = reads (rustHalf h)
+given (word w is a) = reads (rustWord w)
+given (alu kind a b is c) = computes (rustAlu kind a b)
 
-abbrev pub stated : Row → Answer
-stated (q is a) = a
+abbrev pub expected : Line → Reply
+expected (q is a) = a
 
-abbrev pub values : List Row
+abbrev pub values : List Line
 values =
     (halfword 0x0000 is reads None)
     ∷ (halfword 0x9002 is reads None)

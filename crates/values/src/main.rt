@@ -7,7 +7,7 @@ fn line(number: u64, lent: &[u8]) {
     let mut i = 0;
     while i < lent.len() {
         io::write_all(STDOUT_FILENO, b" ");
-        io::print_decimal(STDOUT_FILENO, lent[i] as u64);
+        io::print_decimal(STDOUT_FILENO, bits::as_u64(lent[i]));
         i += 1;
     }
     io::write_all(STDOUT_FILENO, b"\n");

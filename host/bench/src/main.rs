@@ -19,7 +19,7 @@ usage: bench [--instructions] [--image FILE].. [ROW]..
 Times Unvriscol's C functions and the original Rust's side by side: nanoseconds per call, of the best of many rounds.
 
   --instructions  count instructions by callgrind instead, which do not depend on the machine's load (needs valgrind)
-  --image FILE    the words, halfwords and blocks of a file, as they stand, in place of made ones; may be repeated, for a table each
+  --image FILE    the words, halfwords and blocks of a file, repeated to 64 pages or more, in place of made ones; may be given often, for a table each
   --help          this text
 
 A ROW is a word of the names below; all of them are timed where none is given.
