@@ -25,7 +25,7 @@ use Rattle.cache.proofs.Checks.{opened-fits, Taken, insert-taken}
 use Rattle.cache.proofs.View.{fitting-evicted, fitting-inserted}
 use Rattle.write.specs.Write.{writeJudged, noticedPages, writeBy, writeCall}
 use Rattle.write.proofs.Granted.{Granted, write-granted}
-use Rattle.history.specs.History.{Event, inserted}
+use Rattle.history.specs.History.{Event}
 use Rattle.guarantee.specs.Calls.{Use, lookup, insert, notice, flush, generation, write, Call, make, uses, Lent, storing, done, run}
 use Rattle.guarantee.specs.Past.{Past, unmade, since, pageOf, events, grown, past, pastOf}
 use Rattle.guarantee.specs.Stands.{Stands, Follows}

@@ -28,7 +28,7 @@ use Rattle.cache.specs.declared.Report.{Report}
 use Rattle.cache.proofs.Checks.{opened-fits, insert-taken}
 use Rattle.cache.proofs.View.{opened-evicted, generation-evicted, bits-evicted, place-evicted, opened-inserted, generation-inserted, bits-inserted, place-inserted}
 use Rattle.write.specs.Write.{noticedPages}
-use Rattle.history.specs.History.{Event, inserted, touched, flushed, Every, none-left, and-then, OfInserted, insertions, shown, marked}
+use Rattle.history.specs.History.{Event, inserted, touched, flushed, Every, none-left, and-then, insertions, shown, marked}
 use Rattle.history.proofs.Sentences.{no-some}
 use Rattle.history.proofs.Places.{Place, empty, full, swept, places, Was, was, full-shown, shown-full, empty-none}
 use Rattle.guarantee.specs.Past.{pageOf, crossed}

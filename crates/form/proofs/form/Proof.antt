@@ -10,7 +10,7 @@ use Rattle.block.proofs.Places.{GoodMemory, good-memory, held, rest-is}
 use Rattle.decode.specs.Readings.{rust}
 use Rattle.form.specs.Forming.{opsFrom}
 use Rattle.form.specs.Call.{formJudged, formedInto, formCall}
-use Rattle.form.proofs.Judged.{Begun, begun}
+use Rattle.form.proofs.Judged.{begun}
 use borrow.Author.Needs.{needs}
 use Rattle.form.proofs.form.Statement.{statement}
 use Rattle.form.proofs.form.Tie as tie
