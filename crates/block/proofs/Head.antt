@@ -1,4 +1,4 @@
--- What a well-formed record's header says, as facts; and with these facts the ops decide.
+-- What a well-formed record's head says, as facts; and with these facts the ops decide.
 -- Assumes nothing.
 use mathlib.Core.Path.{_≡_, refl}
 use mathlib.Core.Bool.{Bool, true, false}

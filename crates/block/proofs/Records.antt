@@ -28,7 +28,7 @@ counts-le count len hc hl =
     ∙ le-cons 7 (count % 256) _ (omega arith)
     (le-cons 6 (count / 256 % 256) _ (omega arith) (le-cons 5 (len % 256) _ (omega arith) (le-cons 4 (len / 256 % 256) 0 (omega arith) refl)))
 
--- a header is written as two numbers
+-- a head is written as two numbers
 pub head-put : (s : List ℕ) (address count len : ℕ) → count < 2 ^ 16 → len < 2 ^ 16 → 16 ≤ length s
     → patch (patch s 0 (le 8 address)) 8 (le 8 (count + 65536 * len)) ≡ patch s 0 (headBytes address count len)
 head-put s address count len hc hl long =

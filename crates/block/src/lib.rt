@@ -16,7 +16,7 @@ pub const MAX_PAGES: u64 = 65536;
 // The end of the highest memory.
 const TOP: u64 = 0x100_0000_0000_0000;
 
-// What the header of a block record says of its ops.
+// What the head of a block record says of its ops.
 pub struct BlockRecord {
     pub count: usize,
     pub len: usize,

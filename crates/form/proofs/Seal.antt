@@ -25,7 +25,7 @@ some-record : (address : ℕ) (ops : List Insn) (old : List ℕ) → (length ops
 some-record address [] old some = absurd (some refl)
 some-record address (first ∷ rest) old some = refl
 
--- the records, zeros behind them, and then the header
+-- the records, zeros behind them, and then the head
 pub sealed : (address : ℕ) (ops : List Insn) (old lent zeros : List ℕ) (n len : ℕ) → (n ≡ 0 → ⊥) → length old ≡ 1040 → Written ops old lent n len
     → zeros ≡ replicate (length (midOf (16 + n * 16) (length lent - (16 + n * 16)) lent)) 0
     → (Done, patch (putMid (16 + n * 16) (length lent - (16 + n * 16)) lent zeros) 0 (headBytes address n len)) ≡ formedInto Done address ops old

@@ -1,4 +1,4 @@
--- What the forming loop leaves: the ops' records behind the header's place, every other byte as it was, and the two numbers of the header.
+-- What the forming loop leaves: the ops' records behind the head's place, every other byte as it was, and the head's two numbers.
 -- Assumes nothing.
 use mathlib.Core.Path.{_≡_}
 use mathlib.Core.List.{List}

@@ -1,4 +1,4 @@
--- `block::well_formed` meets its contract: each test refuses what breaks one fact of the header.
+-- `block::well_formed` meets its contract: each test refuses what breaks one fact of the head.
 -- Assumes nothing.
 use mathlib.Core.Path.{sym, _∙_}
 use native.Mathlib.Omega.{arith}
