@@ -1,9 +1,10 @@
--- The number and the value of the cache's own answers. Beside every number but 0 the value is 0.
+-- The numbers of the cache's own answers, and what stands beside them: zeros at every number but 0.
 -- Assumes nothing.
 use Prim.Native.Nat.{ℕ}
 use mathlib.Core.List.{List, []}
 use Rattle.bits.specs.Bytes.{part}
 use Rattle.answer.specs.Answer.{refusalNumber}
+use Rattle.cache.specs.declared.Report.{Report}
 use Rattle.cache.specs.declared.LookupAnswer.{LookupAnswer}
 use Rattle.cache.specs.declared.LookupAnswer.the-variants.{Hit, LookupRefused}
 use Rattle.cache.specs.declared.ReportAnswer.{ReportAnswer}
@@ -25,10 +26,14 @@ lookupPart s (LookupRefused why) = []
 
 -- of a notice and of a guest write
 abbrev pub reportNumber : ReportAnswer → ℕ
-reportNumber (Reported n) = 0
+reportNumber (Reported r) = 0
 reportNumber (NotReported why) = refusalNumber why
 
--- the slots examined
-abbrev pub reportValue : ReportAnswer → ℕ
-reportValue (Reported n) = n .examined
-reportValue (NotReported why) = 0
+-- no slot examined, no place dropped
+abbrev pub nothingDone : Report
+nothingDone = record { examined = 0; dropped = 0 }
+
+-- what was done, as the answer says
+abbrev pub reported : ReportAnswer → Report
+reported (Reported r) = r
+reported (NotReported why) = nothingDone

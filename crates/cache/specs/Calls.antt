@@ -8,7 +8,7 @@ use lib.ListN.{length, take}
 use Rattle.bits.specs.Bytes.{doublewordAt, patch}
 use Rattle.block.specs.WellFormed.{wellFormed}
 use Rattle.store.specs.Layout.{headerLen, header, inBounds, front, storeLen, geometry, opened, holds, memoryPage, slotOf, placeAt, generationOf, bumped}
-use Rattle.store.specs.Places.{pageBit, withBit, placeFor, emptied, eachPlace, blank}
+use Rattle.store.specs.Places.{pageBit, withBit, placeFor, emptied, eachPlace, placesIn, blank}
 use Rattle.store.specs.declared.Geometry.{Geometry}
 use Rattle.store.specs.declared.Opened.{Opened}
 use Rattle.store.specs.declared.Opened.the-variants.{Sound, NotAStore}
@@ -17,6 +17,7 @@ use Rattle.answer.specs.declared.Answer.{Answer}
 use Rattle.answer.specs.declared.Answer.the-variants.{Done, Refused}
 use Rattle.answer.specs.declared.Valued.{Valued}
 use Rattle.answer.specs.declared.Valued.the-variants.{Value, NoValue}
+use Rattle.cache.specs.Answers.{nothingDone}
 use Rattle.cache.specs.declared.Judged.{Judged}
 use Rattle.cache.specs.declared.Judged.the-variants.{Accepted, Rejected}
 use Rattle.cache.specs.declared.Report.{Report}
@@ -76,15 +77,23 @@ watched g s a = holds g a && pageBit s (memoryPage g a)
 unfoldable pub evicted : Geometry → List ℕ → ℕ → List ℕ
 evicted g s a = eachPlace (emptied (a / 4096)) (front (g .pages)) (g .stride) (2 ^ g .e) (withBit s (memoryPage g a) false)
 
-abbrev pub noticedIn : Geometry → List ℕ → ℕ → Report × List ℕ
-noticedIn g s a = cond (watched g s a) (record { examined = 2 ^ g .e }, evicted g s a) (record { examined = 0 }, s)
+abbrev pub noticedIn : Geometry → List ℕ → ℕ → List ℕ
+noticedIn g s a = cond (watched g s a) (evicted g s a) s
+
+-- the places with an address in the page of a
+abbrev pub droppedIn : Geometry → List ℕ → ℕ → ℕ
+droppedIn g s a = placesIn (a / 4096) (front (g .pages)) (g .stride) (2 ^ g .e) s
+
+-- what a notice reports, by the store before it
+abbrev pub reportIn : Geometry → List ℕ → ℕ → Report
+reportIn g s a = cond (watched g s a) (record { examined = 2 ^ g .e; dropped = droppedIn g s a }) nothingDone
 
 -- two notices report together
 abbrev pub summed : Report → Report → Report
-summed p q = record { examined = p .examined + q .examined }
+summed p q = record { examined = p .examined + q .examined; dropped = p .dropped + q .dropped }
 
 abbrev pub noticeBy : Opened → List ℕ → ℕ → ReportAnswer × List ℕ
-noticeBy (Sound g) s a = (Reported (noticedIn g s a .0), noticedIn g s a .1)
+noticeBy (Sound g) s a = (Reported (reportIn g s a), noticedIn g s a)
 noticeBy NotAStore s a = (NotReported NoStore, s)
 
 abbrev pub noticeCall : List ℕ → ℕ → ReportAnswer × List ℕ

@@ -6,8 +6,8 @@ ghost use Prim.Native.Nat.{_+_, _<_, _^_};
 ghost use lib.ListN.{length};
 ghost use Rattle.store.specs.Layout.{header, opened, Fitting, holds};
 ghost use Rattle.store.specs.Places.{placeFor, blank};
-ghost use Rattle.cache.specs.Answers.{lookupNumber, lookupValue, lookupPart, reportNumber, reportValue};
-ghost use Rattle.cache.specs.Calls.{makeJudged, makeCall, lookupCall, insertJudged, insertedIn, insertCall, summed, watched, evicted, noticedIn, noticeCall, flushCall, generationCall};
+ghost use Rattle.cache.specs.Answers.{lookupNumber, lookupValue, lookupPart, nothingDone, reportNumber, reported};
+ghost use Rattle.cache.specs.Calls.{makeJudged, makeCall, lookupCall, insertJudged, insertedIn, insertCall, summed, watched, evicted, noticedIn, droppedIn, reportIn, noticeCall, flushCall, generationCall};
 use answer::Answer;
 use answer::Refusal;
 use answer::Valued;
@@ -22,9 +22,10 @@ pub enum Judged {
     Rejected(Refusal),
 }
 
-// What a notice did: the slots it examined.
+// What a notice did: the slots it examined, and the places it emptied.
 pub struct Report {
     pub examined: u64,
+    pub dropped: u64,
 }
 
 pub enum LookupAnswer {
@@ -36,6 +37,17 @@ pub enum LookupAnswer {
 pub enum ReportAnswer {
     Reported(Report),
     NotReported(Refusal),
+}
+
+impl Report {
+    pub fn nothing() -> Self
+        ensures { λ r. ⌜ r ≡ nothingDone ⌝ }
+    {
+        Self {
+            examined: 0,
+            dropped: 0,
+        }
+    }
 }
 
 impl LookupAnswer {
@@ -69,13 +81,13 @@ impl ReportAnswer {
         }
     }
 
-    // The slots examined.
-    pub fn value(self) -> u64
-        ensures { λ r. ⌜ r ≡ reportValue self ⌝ }
+    // What was done: nothing beside a refusal.
+    pub fn report(self) -> Report
+        ensures { λ r. ⌜ r ≡ reported self ⌝ }
     {
         match self {
-            Self::Reported(report) => report.examined,
-            Self::NotReported(_) => 0,
+            Self::Reported(report) => report,
+            Self::NotReported(_) => Report::nothing(),
         }
     }
 }
@@ -179,36 +191,39 @@ fn watched(store: &[u8], g: Geometry, address: u64) -> bool
     }
 }
 
-fn evict(store: &mut [u8], g: Geometry, address: u64)
+// How many places it emptied.
+fn evict(store: &mut [u8], g: Geometry, address: u64) -> u64
     requires { ⌜ Fitting g (now store) × (holds g address ≡ true) ⌝ }
-    ensures { λ _. ⌜ now (store .exit) ≡ evicted g (now (store .entry)) address ⌝ }
+    ensures { λ r. ⌜ (r ≡ droppedIn g (now (store .entry)) address) × (now (store .exit) ≡ evicted g (now (store .entry)) address) ⌝ }
 {
     store::set_bit(store, g.memory_page(address), false);
-    store::empty_places(store, g.front(), g.stride, g.slots(), address / PAGE);
+    store::empty_places(store, g.front(), g.stride, g.slots(), address / PAGE)
 }
 
 // A notice in a store whose header was checked.
 pub fn notice_in(store: &mut [u8], g: Geometry, address: u64) -> Report
     requires { ⌜ Fitting g (now store) ⌝ }
-    ensures { λ r. ⌜ (r, now (store .exit)) ≡ noticedIn g (now (store .entry)) address ⌝ }
+    ensures { λ r. ⌜ (r, now (store .exit)) ≡ (reportIn g (now (store .entry)) address, noticedIn g (now (store .entry)) address) ⌝ }
 {
     if watched(store, g, address) {
-        evict(store, g, address);
+        let dropped = evict(store, g, address);
         Report {
             examined: g.slots() as u64,
+            dropped,
         }
     } else {
-        Report { examined: 0 }
+        Report::nothing()
     }
 }
 
 // What two notices did.
 pub fn sum(first: Report, second: Report) -> Report
-    requires { ⌜ first .examined + second .examined < 2 ^ 64 ⌝ }
+    requires { ⌜ (first .examined + second .examined < 2 ^ 64) × (first .dropped + second .dropped < 2 ^ 64) ⌝ }
     ensures { λ r. ⌜ r ≡ summed first second ⌝ }
 {
     Report {
         examined: first.examined + second.examined,
+        dropped: first.dropped + second.dropped,
     }
 }
 

@@ -2,8 +2,9 @@
 -- Assumes nothing.
 use Prim.Native.Nat.{ℕ}
 use mathlib.Core.List.{List, [], _∷_}
-use Rattle.cache.specs.Answers.{lookupPart, reportValue}
+use Rattle.cache.specs.Answers.{lookupPart, nothingDone, reported}
 use Rattle.cache.specs.Calls.{makeCall, lookupCall, insertCall, noticeCall, flushCall}
+use Rattle.cache.specs.declared.Report.{Report}
 use Rattle.cache.specs.declared.ReportAnswer.{ReportAnswer}
 use Rattle.write.specs.Write.{writeCall}
 
@@ -34,16 +35,16 @@ pub record Lent : Type 0 where
 abbrev pub storing : Lent → List ℕ → Lent
 storing l s = record { store = s; memory = l .memory }
 
-abbrev pub wrote : ReportAnswer × List ℕ × List ℕ → ℕ × Lent
-wrote r = (reportValue (r .0), record { store = r .1; memory = r .2 })
+abbrev pub wrote : ReportAnswer × List ℕ × List ℕ → Report × Lent
+wrote r = (reported (r .0), record { store = r .1; memory = r .2 })
 
--- the slots that a call reports, and both buffers after it
-unfoldable pub done : Use → Lent → ℕ × Lent
-done (lookup a) l = (0, l)
-done (insert a rec) l = (0, storing l (insertCall (l .store) a rec .1))
-done (notice a) l = (reportValue (noticeCall (l .store) a .0), storing l (noticeCall (l .store) a .1))
-done flush l = (0, storing l (flushCall (l .store) .1))
-done generation l = (0, l)
+-- what a call reports, and both buffers after it
+unfoldable pub done : Use → Lent → Report × Lent
+done (lookup a) l = (nothingDone, l)
+done (insert a rec) l = (nothingDone, storing l (insertCall (l .store) a rec .1))
+done (notice a) l = (reported (noticeCall (l .store) a .0), storing l (noticeCall (l .store) a .1))
+done flush l = (nothingDone, storing l (flushCall (l .store) .1))
+done generation l = (nothingDone, l)
 done (write a n v) l = wrote (writeCall (l .store) (l .memory) a n v)
 
 -- both after a list of calls, the newest first

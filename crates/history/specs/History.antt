@@ -1,11 +1,12 @@
 -- What a history of calls says of a cache, read back from the newest event.
 -- Assumes nothing.
 use mathlib.Core.Path.{_≡_}
-use mathlib.Core.Bool.{Bool, false, cond, _&&_, _||_, not}
+use mathlib.Core.Bool.{Bool, true, false, cond, _&&_, _||_, not}
 use mathlib.Core.List.{List, [], _∷_, _++_}
 use mathlib.Core.Option.{Option, none, some}
 use Prim.Native.Nat.{ℕ, suc, _+_}
 use lib.Dec.{eqb}
+use Rattle.bits.specs.Count.{count}
 
 -- an accepted insertion of a record at an address; a notice or an accepted guest write in a page; a flush
 pub data Event : Type 0 where
@@ -20,6 +21,13 @@ insertions (inserted a r ∷ h) = suc (insertions h)
 insertions (touched p ∷ h) = insertions h
 insertions (flushed ∷ h) = insertions h
 
+-- what a history's touches count, each after the events before it, summed
+unfoldable pub total : (List Event → ℕ → ℕ) → List Event → ℕ
+total f [] = 0
+total f (inserted a r ∷ h) = total f h
+total f (touched p ∷ h) = f h p + total f h
+total f (flushed ∷ h) = total f h
+
 -- every event of a list
 pub data Every (P : Event → Type 0) : List Event → Type 0 where
   none-left : Every P []
@@ -30,6 +38,11 @@ abbrev pub OfInserted : (ℕ → List ℕ → Type 0) → Event → Type 0
 OfInserted P (inserted a r) = P a r
 OfInserted P (touched p) = Unit {0}
 OfInserted P flushed = Unit {0}
+
+-- whether there is a record
+abbrev pub anything : Option (List ℕ) → Bool
+anything (some r) = true
+anything none = false
 
 module _ (slot page : ℕ → ℕ) where
   -- the record that a lookup at a shows: the newest event that concerns a decides
@@ -46,15 +59,13 @@ module _ (slot page : ℕ → ℕ) where
   marked (touched q ∷ h) p = not (eqb q p) && marked h p
   marked (flushed ∷ h) p = false
 
-  -- the slots, of n, that a touch of a page examines, and their sum over a history
+  -- the slots, of n, that a touch of a page examines
   abbrev pub examined : ℕ → List Event → ℕ → ℕ
   examined n h p = cond (marked h p) n 0
 
-  unfoldable pub total : ℕ → List Event → ℕ
-  total n [] = 0
-  total n (inserted a r ∷ h) = total n h
-  total n (touched p ∷ h) = examined n h p + total n h
-  total n (flushed ∷ h) = total n h
+  -- how many of the m addresses from a on a lookup would hit
+  abbrev pub hitsFrom : ℕ → ℕ → List Event → ℕ
+  hitsFrom a m h = count m (λ k. anything (shown h (a + k)))
 
   -- the same in one sentence each, as in docs/FORMATS.md, What any history guarantees
   abbrev pub Harmless : ℕ → Event → Type 0

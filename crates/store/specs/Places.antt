@@ -8,6 +8,7 @@ use lib.Dec.{eqb}
 use lib.ListN.{length, getD, set, replicate}
 use Rattle.bits.specs.Bits.{bit}
 use Rattle.bits.specs.Bytes.{le, doublewordAt, part, patch}
+use Rattle.bits.specs.Count.{count}
 use Rattle.store.specs.Layout.{headerLen, front, placeAt}
 use Rattle.store.specs.declared.Geometry.{Geometry}
 
@@ -38,9 +39,13 @@ placeFor g rec = rec
 unfoldable pub recordIn : Geometry → List ℕ → List ℕ
 recordIn g place = place
 
--- a place after a notice in a page, which is counted from address 0
+-- a place's address lies in a page, which is counted from address 0
+abbrev pub inPage : ℕ → List ℕ → Bool
+inPage page p = eqb (doublewordAt p 0 / 4096) page
+
+-- a place after a notice in a page
 unfoldable pub emptied : ℕ → List ℕ → List ℕ
-emptied page p = cond (eqb (doublewordAt p 0 / 4096) page) (emptyPlace (length p)) p
+emptied page p = cond (inPage page p) (emptyPlace (length p)) p
 
 -- a place with the address of an empty one
 unfoldable pub vacated : List ℕ → List ℕ
@@ -50,6 +55,10 @@ vacated p = patch p 0 (le 8 0xFFFF_FFFF_FFFF_FFFF)
 unfoldable pub eachPlace : (List ℕ → List ℕ) → ℕ → ℕ → ℕ → List ℕ → List ℕ
 eachPlace f first z zero s = s
 eachPlace f first z (suc n) s = patch (eachPlace f first z n s) (first + z * n) (f (part (eachPlace f first z n s) (first + z * n) z))
+
+-- how many of the first n places of z bytes from `first` on have an address in a page
+abbrev pub placesIn : ℕ → ℕ → ℕ → ℕ → List ℕ → ℕ
+placesIn page first z n s = count n (λ i. inPage page (part s (first + z * i) z))
 
 -- n times the same
 unfoldable pub copies : ℕ → List ℕ → List ℕ

@@ -1,12 +1,12 @@
 // The cache's store in lent bytes: its header, its page bitmap, its places. (block.rs, Slot and BlockCache's fields)
 ghost use mathlib.Core.Path.{_≡_};
-ghost use mathlib.Core.Bool.{true};
+ghost use mathlib.Core.Bool.{true, cond};
 ghost use mathlib.Core.List.{_++_};
 ghost use Prim.Native.Nat.{_+_, _-_, _*_, _/_, _^_, _≤_, _<_};
 ghost use lib.ListN.{length, take, replicate};
 ghost use Rattle.bits.specs.Bytes.{part, patch};
 ghost use Rattle.store.specs.Layout.{headerLen, header, inBounds, front, storeLen, geometry, opened, Bounded, Fitting, holds, memoryPage, slotOf, placeAt, generationOf, bumped};
-ghost use Rattle.store.specs.Places.{pageBit, putBit, withBit, emptyPlace, emptied, vacated, eachPlace, blank};
+ghost use Rattle.store.specs.Places.{pageBit, putBit, withBit, emptyPlace, inPage, emptied, vacated, eachPlace, placesIn, blank};
 use block::MAX_PAGES;
 use block::PAGE;
 use block::Slot;
@@ -199,34 +199,40 @@ fn empty(place: &mut [u8])
     bits::put_doubleword(place, 0, Slot::EMPTY);
 }
 
-fn empty_if(place: &mut [u8], page: u64)
+// 1 for a place that it emptied, else 0.
+fn empty_if(place: &mut [u8], page: u64) -> u64
     requires { ⌜ 8 ≤ length (now place) ⌝ }
-    ensures { λ _. ⌜ now (place .exit) ≡ emptied page (now (place .entry)) ⌝ }
+    ensures { λ r. ⌜ (r ≡ cond (inPage page (now (place .entry))) 1 0) × (now (place .exit) ≡ emptied page (now (place .entry))) ⌝ }
 {
     if bits::doubleword_at(place, 0) / PAGE == page {
         empty(place);
+        1
+    } else {
+        0
     }
 }
 
-fn empty_at(store: &mut [u8], at: usize, stride: usize, page: u64)
+fn empty_at(store: &mut [u8], at: usize, stride: usize, page: u64) -> u64
     requires { ⌜ (8 ≤ stride) × (at + stride ≤ length (now store)) ⌝ }
-    ensures { λ _. ⌜ now (store .exit) ≡ patch (now (store .entry)) at (emptied page (part (now (store .entry)) at stride)) ⌝ }
+    ensures { λ r. ⌜ (r ≡ cond (inPage page (part (now (store .entry)) at stride)) 1 0) × (now (store .exit) ≡ patch (now (store .entry)) at (emptied page (part (now (store .entry)) at stride))) ⌝ }
 {
-    empty_if(&mut store[at..at + stride], page);
+    empty_if(&mut store[at..at + stride], page)
 }
 
-// Empties those of n places of `stride` bytes from `first` on that have an address in the page, which is counted from address 0.
-pub fn empty_places(store: &mut [u8], first: usize, stride: usize, n: usize, page: u64)
+// Empties those of n places of `stride` bytes from `first` on that have an address in the page, which is counted from address 0, and says how many.
+pub fn empty_places(store: &mut [u8], first: usize, stride: usize, n: usize, page: u64) -> u64
     requires { ⌜ (8 ≤ stride) × (first + stride * n ≤ length (now store)) ⌝ }
-    ensures { λ _. ⌜ now (store .exit) ≡ eachPlace (emptied page) first stride n (now (store .entry)) ⌝ }
+    ensures { λ r. ⌜ (r ≡ placesIn page first stride n (now (store .entry))) × (now (store .exit) ≡ eachPlace (emptied page) first stride n (now (store .entry))) ⌝ }
 {
     let mut i = 0;
     let mut at = first;
+    let mut dropped = 0;
     while i < n {
-        empty_at(store, at, stride, page);
+        dropped += empty_at(store, at, stride, page);
         at += stride;
         i += 1;
     }
+    dropped
 }
 
 // Zeros from here on.

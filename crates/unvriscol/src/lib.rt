@@ -6,16 +6,24 @@ ghost use Rattle.decode.specs.Readings.{rust};
 ghost use Rattle.decode.specs.Call.{wordCall, halfCall};
 ghost use Rattle.alu.specs.Call.{aluCall};
 ghost use Rattle.form.specs.Call.{formCall};
-ghost use Rattle.cache.specs.Answers.{lookupNumber, lookupValue, reportNumber, reportValue};
+ghost use Rattle.cache.specs.Answers.{lookupNumber, lookupValue};
 ghost use Rattle.cache.specs.Calls.{makeCall, lookupCall, insertCall, noticeCall, flushCall, generationCall};
 ghost use Rattle.write.specs.Write.{writeCall};
-ghost use Rattle.unvriscol.specs.Seen.{both, seen, seenWithTwo};
+ghost use Rattle.unvriscol.specs.Seen.{both, reportSeen, seen, seenWithTwo};
 
 // The answer's number (docs/FORMATS.md), and the value beside it, which is 0 at every number but 0.
 #[repr(C)]
 pub struct Numbered {
     pub number: u64,
     pub value: u64,
+}
+
+// The answer's number, and beside it the slots examined and the places emptied, which are 0 at every number but 0.
+#[repr(C)]
+pub struct NumberedReport {
+    pub number: u64,
+    pub examined: u64,
+    pub dropped: u64,
 }
 
 // Decodes a word into the lent op record.
@@ -85,15 +93,19 @@ pub extern "C" fn uv_insert(store: &mut [u8], address: u64, lent: &[u8]) -> u64
     answer.number()
 }
 
-// Notices a write that was done at the address; the value is the slots examined.
+// Notices a write that was done at the address.
 #[no_mangle]
-pub extern "C" fn uv_notice(store: &mut [u8], address: u64) -> Numbered
-    ensures { λ r. ⌜ ((r .number, r .value), now (store .exit)) ≡ seen (both reportNumber reportValue) (noticeCall (now (store .entry)) address) ⌝ }
+pub extern "C" fn uv_notice(store: &mut [u8], address: u64) -> NumberedReport
+    ensures { λ r. ⌜ ((r .number, r .examined, r .dropped), now (store .exit)) ≡ seen reportSeen (noticeCall (now (store .entry)) address) ⌝ }
 {
     let answer = cache::notice(store, address);
     let number = answer.number();
-    let value = answer.value();
-    Numbered { number, value }
+    let report = answer.report();
+    NumberedReport {
+        number,
+        examined: report.examined,
+        dropped: report.dropped,
+    }
 }
 
 // Empties the cache.
@@ -116,7 +128,7 @@ pub extern "C" fn uv_generation(store: &[u8]) -> Numbered
     Numbered { number, value }
 }
 
-// Writes the low bytes of the value to guest memory, with a notice for each page touched; the value returned is the slots examined.
+// Writes the low bytes of the value to guest memory, with a notice for each page touched.
 #[no_mangle]
 pub extern "C" fn uv_guest_write(
     store: &mut [u8],
@@ -124,11 +136,15 @@ pub extern "C" fn uv_guest_write(
     address: u64,
     size: u64,
     value: u64,
-) -> Numbered
-    ensures { λ r. ⌜ ((r .number, r .value), now (store .exit), now (memory .exit)) ≡ seenWithTwo (both reportNumber reportValue) (writeCall (now (store .entry)) (now (memory .entry)) address size value) ⌝ }
+) -> NumberedReport
+    ensures { λ r. ⌜ ((r .number, r .examined, r .dropped), now (store .exit), now (memory .exit)) ≡ seenWithTwo reportSeen (writeCall (now (store .entry)) (now (memory .entry)) address size value) ⌝ }
 {
     let answer = write::guest_write(store, memory, address, size, value);
     let number = answer.number();
-    let value = answer.value();
-    Numbered { number, value }
+    let report = answer.report();
+    NumberedReport {
+        number,
+        examined: report.examined,
+        dropped: report.dropped,
+    }
 }

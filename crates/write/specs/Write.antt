@@ -13,7 +13,7 @@ use Rattle.store.specs.declared.Geometry.{Geometry}
 use Rattle.store.specs.declared.Opened.{Opened}
 use Rattle.store.specs.declared.Opened.the-variants.{Sound, NotAStore}
 use Rattle.answer.specs.declared.Refusal.the-variants.{NoStore, BadGeometry, OutsideMemory, WrongWriteSize}
-use Rattle.cache.specs.Calls.{noticedIn, summed}
+use Rattle.cache.specs.Calls.{noticedIn, reportIn, summed}
 use Rattle.cache.specs.declared.Judged.{Judged}
 use Rattle.cache.specs.declared.Judged.the-variants.{Accepted, Rejected}
 use Rattle.cache.specs.declared.Report.{Report}
@@ -30,16 +30,17 @@ writeJudged (Sound g) len a n =
     (Rejected BadGeometry)
 writeJudged NotAStore len a n = Rejected NoStore
 
-abbrev pub noticedAlso : Geometry → Report × List ℕ → ℕ → Report × List ℕ
-noticedAlso g p b = (summed (p .0) (noticedIn g (p .1) b .0), noticedIn g (p .1) b .1)
-
 -- a notice for each page of a write whose first byte is at a and whose last is at b
-abbrev pub noticedPages : Geometry → List ℕ → ℕ → ℕ → Report × List ℕ
-noticedPages g s a b = cond (eqb (a / 4096) (b / 4096)) (noticedIn g s a) (noticedAlso g (noticedIn g s a) b)
+abbrev pub noticedPages : Geometry → List ℕ → ℕ → ℕ → List ℕ
+noticedPages g s a b = cond (eqb (a / 4096) (b / 4096)) (noticedIn g s a) (noticedIn g (noticedIn g s a) b)
+
+-- their report: the sum over both pages, each by the store before the call
+abbrev pub reportPages : Geometry → List ℕ → ℕ → ℕ → Report
+reportPages g s a b = cond (eqb (a / 4096) (b / 4096)) (reportIn g s a) (summed (reportIn g s a) (reportIn g s b))
 
 abbrev pub writeBy : Judged → List ℕ → List ℕ → ℕ → ℕ → ℕ → ReportAnswer × List ℕ × List ℕ
 writeBy (Accepted g) s m a n v =
-    (Reported (noticedPages g s a (a + n - 1) .0), noticedPages g s a (a + n - 1) .1, patch m (a - g .base) (le n v))
+    (Reported (reportPages g s a (a + n - 1)), noticedPages g s a (a + n - 1), patch m (a - g .base) (le n v))
 writeBy (Rejected why) s m a n v = (NotReported why, s, m)
 
 abbrev pub writeCall : List ℕ → List ℕ → ℕ → ℕ → ℕ → ReportAnswer × List ℕ × List ℕ
