@@ -24,19 +24,19 @@ addressOf (full a r) = a
 
 module _ (slot page : ℕ → ℕ) where
   -- a place holds an address of page p
-  abbrev pub inPage : ℕ → Place → Bool
-  inPage p empty = false
-  inPage p (full a r) = eqb (page a) p
+  abbrev pub placeInPage : ℕ → Place → Bool
+  placeInPage p empty = false
+  placeInPage p (full a r) = eqb (page a) p
 
-  unmarked-out : (h : List Event) (p i : ℕ) → marked slot page h p ≡ false → inPage p (places slot page h i) ≡ false
+  unmarked-out : (h : List Event) (p i : ℕ) → marked slot page h p ≡ false → placeInPage p (places slot page h i) ≡ false
   unmarked-out h p i m = go (places slot page h i) (in-place slot page h i)
     where
-      go : (k : Place) → InPlace slot page h i k → inPage p k ≡ false
+      go : (k : Place) → InPlace slot page h i k → placeInPage p k ≡ false
       go empty s = refl
       go (full a r) s = ne-eqb (page a) p (λ e. true≢false (sym (s .1) ∙ ap (marked slot page h) e ∙ m))
 
   -- a touch empties the places of its page, whether the page is marked or has none
-  touch-empties : (h : List Event) (p i : ℕ) → cond (isFull (places slot page (touched p ∷ h) i)) 1 0 + cond (inPage p (places slot page h i)) 1 0 ≡ cond (isFull (places slot page h i)) 1 0
+  touch-empties : (h : List Event) (p i : ℕ) → cond (isFull (places slot page (touched p ∷ h) i)) 1 0 + cond (placeInPage p (places slot page h i)) 1 0 ≡ cond (isFull (places slot page h i)) 1 0
   unfolding places
   touch-empties h p i = go (marked slot page h p) refl
     where
@@ -44,28 +44,28 @@ module _ (slot page : ℕ → ℕ) where
       scanned true a r = refl
       scanned false a r = refl
 
-      one : (k : Place) → cond (isFull (swept slot page p k)) 1 0 + cond (inPage p k) 1 0 ≡ cond (isFull k) 1 0
+      one : (k : Place) → cond (isFull (swept slot page p k)) 1 0 + cond (placeInPage p k) 1 0 ≡ cond (isFull k) 1 0
       one empty = refl
       one (full a r) = scanned (eqb (page a) p) a r
 
       sum : (x : ℕ) → x + 0 ≡ x
       sum x = omega arith
 
-      go : (t : Bool) → marked slot page h p ≡ t → cond (isFull (cond (marked slot page h p) (swept slot page p (places slot page h i)) (places slot page h i))) 1 0 + cond (inPage p (places slot page h i)) 1 0 ≡ cond (isFull (places slot page h i)) 1 0
+      go : (t : Bool) → marked slot page h p ≡ t → cond (isFull (cond (marked slot page h p) (swept slot page p (places slot page h i)) (places slot page h i))) 1 0 + cond (placeInPage p (places slot page h i)) 1 0 ≡ cond (isFull (places slot page h i)) 1 0
       go true e = rw e (one (places slot page h i))
       go false e = rw (e, unmarked-out h p i e) (sum (cond (isFull (places slot page h i)) 1 0))
 
   -- n slots, and m addresses to a page, from the first of each on
   module _ (n : ℕ) (slots : (a : ℕ) → slot a < n) (first : ℕ → ℕ) (m : ℕ) (in-page : (p k : ℕ) → k < m → page (first p + k) ≡ p) (its-page : (a : ℕ) → (first (page a) ≤ a) × (a < first (page a) + m)) where
     -- each place of the page is the slot of an address that a lookup hits, and each such address is that of a place
-    pub places-hits : (h : List Event) (p : ℕ) → count n (λ i. inPage p (places slot page h i)) ≡ hitsFrom slot page (first p) m h
+    pub places-hits : (h : List Event) (p : ℕ) → count n (λ i. placeInPage p (places slot page h i)) ≡ hitsFrom slot page (first p) m h
     unfolding addressOf
     places-hits h p =
         le-antisymm
-        (count-onto n m (λ i. inPage p (places slot page h i)) (λ k. anything (shown slot page h (first p + k))) (λ k. slot (first p + k)) (λ i l e. hit i (places slot page h i) refl e))
-        (count-onto m n (λ k. anything (shown slot page h (first p + k))) (λ i. inPage p (places slot page h i)) (λ i. addressOf (places slot page h i) - first p) (λ k l e. place k l (shown slot page h (first p + k)) refl e))
+        (count-onto n m (λ i. placeInPage p (places slot page h i)) (λ k. anything (shown slot page h (first p + k))) (λ k. slot (first p + k)) (λ i l e. hit i (places slot page h i) refl e))
+        (count-onto m n (λ k. anything (shown slot page h (first p + k))) (λ i. placeInPage p (places slot page h i)) (λ i. addressOf (places slot page h i) - first p) (λ k l e. place k l (shown slot page h (first p + k)) refl e))
       where
-        hit : (i : ℕ) (k : Place) → places slot page h i ≡ k → inPage p k ≡ true → Some m (λ k. eqb (slot (first p + k)) i && anything (shown slot page h (first p + k)))
+        hit : (i : ℕ) (k : Place) → places slot page h i ≡ k → placeInPage p k ≡ true → Some m (λ k. eqb (slot (first p + k)) i && anything (shown slot page h (first p + k)))
         hit i empty e t = absurd (true≢false (sym t))
         hit i (full a r) e t =
             let there : (first p ≤ a) × (a < first p + m) = subst (λ (q : ℕ). (first q ≤ a) × (a < first q + m)) (eqb-true (page a) p t) (its-page a) in
@@ -73,7 +73,7 @@ module _ (slot page : ℕ → ℕ) where
             let w = full-shown slot page h i a r e in
             record { at = a - first p; below = omega (arith, there); passes = rw (back, eq-eqb (slot a) i (w .0), w .1) }
 
-        place : (k : ℕ) → k < m → (o : Option (List ℕ)) → shown slot page h (first p + k) ≡ o → anything o ≡ true → Some n (λ i. eqb (addressOf (places slot page h i) - first p) k && inPage p (places slot page h i))
+        place : (k : ℕ) → k < m → (o : Option (List ℕ)) → shown slot page h (first p + k) ≡ o → anything o ≡ true → Some n (λ i. eqb (addressOf (places slot page h i) - first p) k && placeInPage p (places slot page h i))
         place k l none e t = absurd (true≢false (sym t))
         place k l (some r) e t =
             let back : first p + k - first p ≡ k = omega arith in
@@ -81,7 +81,7 @@ module _ (slot page : ℕ → ℕ) where
 
     -- so an unmarked page has none
     pub unmarked-none : (h : List Event) (p : ℕ) → marked slot page h p ≡ false → hitsFrom slot page (first p) m h ≡ 0
-    unmarked-none h p e = sym (places-hits h p) ∙ count-none n (λ i. inPage p (places slot page h i)) (λ i l. unmarked-out h p i e)
+    unmarked-none h p e = sym (places-hits h p) ∙ count-none n (λ i. placeInPage p (places slot page h i)) (λ i l. unmarked-out h p i e)
 
     abbrev fullPlaces : List Event → ℕ
     fullPlaces h = count n (λ i. isFull (places slot page h i))
@@ -97,7 +97,7 @@ module _ (slot page : ℕ → ℕ) where
         let more = count-but-one n (slot a) (λ i. isFull (places slot page (inserted a r ∷ h) i)) (λ i. isFull (places slot page h i)) (slots a) (λ i d. rw (ne-eqb (slot a) i (λ e. d (sym e)))) in
         omega (arith, accounted h, rw (eq-eqb (slot a) (slot a) refl) at more)
     accounted (touched p ∷ h) =
-        omega (arith, accounted h, places-hits h p, count-apart n (λ i. isFull (places slot page (touched p ∷ h) i)) (λ i. inPage p (places slot page h i)) (λ i. isFull (places slot page h i)) (λ i l. touch-empties h p i))
+        omega (arith, accounted h, places-hits h p, count-apart n (λ i. isFull (places slot page (touched p ∷ h) i)) (λ i. placeInPage p (places slot page h i)) (λ i. isFull (places slot page h i)) (λ i l. touch-empties h p i))
     accounted (flushed ∷ h) = omega (arith, accounted h, count-none n (λ i. false) (λ i l. refl))
 
     pub dropped-bound : (h : List Event) → total drops h ≤ insertions h
