@@ -8,6 +8,7 @@ use native.Mathlib.Omega.{arith}
 use native.Mathlib.Nat.{mul-suc, mul-zero}
 use native.Mathlib.Numerals.{add-one}
 use lib.Dec.{eqb}
+use borrow.Author.Tests.{eqb-true, ne-eqb}
 use lib.ListN.{length, drop, replicate, length-append, length-replicate, replicate-append-replicate}
 use Rattle.bits.specs.Bytes.{le, part, patch, doublewordAt}
 use Rattle.bits.proofs.Bytes.{length-le, length-patch, length-part, part-behind, le-zero, le-cons, patch-append}
@@ -29,6 +30,23 @@ empty-made z h = ap (λ (l : List ℕ). replicate 8 255 ++ drop 8 l) (ap (λ (n 
 pub length-empty : (z : ℕ) → 8 ≤ z → length (emptyPlace z) ≡ z
 unfolding emptyPlace
 length-empty z h = simp (length-append, length-replicate) (omega arith)
+
+-- no page of memory has the address of an empty place
+pub empty-address : (z : ℕ) → doublewordAt (emptyPlace z) 0 ≡ 0xFFFF_FFFF_FFFF_FFFF
+unfolding emptyPlace
+empty-address z = refl
+
+-- emptying the places of one page leaves another page's as they were
+pub emptied-apart : (w v : ℕ) (p : List ℕ) → (w ≡ v → ⊥) → v < 0xF_FFFF_FFFF_FFFF → inPage v (emptied w p) ≡ inPage v p
+unfolding emptied
+emptied-apart w v p n low = go (inPage w p) refl
+  where
+    go : (b : Bool) → inPage w p ≡ b → inPage v (cond b (emptyPlace (length p)) p) ≡ inPage v p
+    go true e =
+        let here : doublewordAt p 0 / 4096 ≡ w = eqb-true _ _ e in
+        ne-eqb (doublewordAt (emptyPlace (length p)) 0 / 4096) v (λ q. omega (arith, empty-address (length p)))
+        ∙ sym (ne-eqb (doublewordAt p 0 / 4096) v (λ q. n (sym here ∙ q)))
+    go false e = refl
 
 pub length-emptied : (w : ℕ) (p : List ℕ) → 8 ≤ length p → length (emptied w p) ≡ length p
 unfolding emptied
