@@ -88,6 +88,9 @@ same-test g a q b h =
     (λ e. eq-eqb ((a - g .base) / 4096) q e ∙ sym (eq-eqb (pageOf a) (pageOf (g .base) + q) (page-shift g a b h ∙ ap (λ (k : ℕ). pageOf (g .base) + k) e)))
     (λ n. ne-eqb ((a - g .base) / 4096) q n ∙ sym (ne-eqb (pageOf a) (pageOf (g .base) + q) (λ e. n (omega (arith, page-shift g a b h)))))
 
+pub same-report : {p q : Report} → p .examined ≡ q .examined → p .dropped ≡ q .dropped → p ≡ q
+same-report e d = ap₂ (λ (n k : ℕ). record { examined = n; dropped = k }) e d
+
 -- the addresses of a page
 abbrev pub firstOf : ℕ → ℕ
 firstOf p = 4096 * p
@@ -224,8 +227,8 @@ module _ (g : Geometry) (h : List Event) (s : List ℕ) (y : Stands g h s) where
     notice-reports = go (watched g s a) refl
       where
         go : (t : Bool) → watched g s a ≡ t → reportIn g s a ≡ report g h (pageOf a)
-        go true e = rw (e, sym (watched-marked a) ∙ e, counted (and-both (holds g a) _ e .0))
-        go false e = let m = sym (watched-marked a) ∙ e in rw (e, m, unmarked-drops m)
+        go true e = rw (e, sym (watched-marked a) ∙ e) (same-report refl (counted (and-both (holds g a) _ e .0)))
+        go false e = let m = sym (watched-marked a) ∙ e in rw (e, m) (same-report refl (sym (unmarked-drops m)))
 
     pub notice-keeps : Stands g (touched (pageOf a) ∷ h) (noticedIn g s a)
     notice-keeps = go (watched g s a) refl
@@ -233,9 +236,6 @@ module _ (g : Geometry) (h : List Event) (s : List ℕ) (y : Stands g h s) where
         go : (t : Bool) → watched g s a ≡ t → Stands g (touched (pageOf a) ∷ h) (noticedIn g s a)
         go true e = rw e (swept-places (sym (watched-marked a) ∙ e) (and-both (holds g a) _ e .0))
         go false e = rw e (unwatched (sym (watched-marked a) ∙ e))
-
-pub same-report : {p q : Report} → p .examined ≡ q .examined → p .dropped ≡ q .dropped → p ≡ q
-same-report e d = ap₂ (λ (n k : ℕ). record { examined = n; dropped = k }) e d
 
 -- the first report of a sum
 pub alone : (r : Report) → summed nothingDone r ≡ r
