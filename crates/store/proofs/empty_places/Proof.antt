@@ -42,9 +42,10 @@ counted c =
 turned : tie.Need-loop-again Inv-loop μ-loop
 unfolding eachPlace
 turned c =
-    let l = c .before .before .before .before .before in
-    ((omega arith, rw (add-one, mul-suc) (omega arith), c .before .before .empty-at .ensures .1 ∙ rw (add-one, l .loop .inv .0 .1, l .loop .inv .0 .2), omega arith),
-    counted (c .before .before) .0)
+    let l = c .before .before .before .before .before in (
+      (omega arith, rw (add-one, mul-suc) (omega arith), c .before .before .empty-at .ensures .1 ∙ rw (add-one, l .loop .inv .0 .1, l .loop .inv .0 .2), omega arith),
+      counted (c .before .before) .0,
+    )
 
 pub empty-places-spec : {M : Type 1} → statement M
 empty-places-spec =
