@@ -2,6 +2,7 @@
 pub mod Bit
 pub mod Bytes
 pub mod Cases
+pub mod Count
 pub mod Every
 pub mod Once
 pub mod Shift

@@ -1,19 +1,22 @@
 -- What an accepted insertion and an eviction leave of a store's geometry, generation, page bits and places.
 -- Assumes nothing.
-use mathlib.Core.Path.{_≡_, ap, _∙_}
-use mathlib.Core.Bool.{true, false, cond}
+use mathlib.Core.Path.{_≡_, refl, ap, _∙_}
+use mathlib.Core.Bool.{Bool, true, false, cond}
 use mathlib.Core.List.{List}
 use Prim.Native.Nat.{ℕ, _+_, _/_, _%_, _^_, _<_}
 use native.Mathlib.Omega.{arith}
 use lib.Dec.{eqb}
 use lib.ListN.{length}
+use borrow.Author.Tests.{ne-eqb}
+use Rattle.bits.proofs.Count.{count-same}
+use Rattle.bits.proofs.Tests.{and-both}
 use Rattle.store.specs.Layout.{opened, Fitting, holds, memoryPage, slotOf, generationOf, bumped}
-use Rattle.store.specs.Places.{placeIn, pageBit, withBit, placeFor, emptied}
+use Rattle.store.specs.Places.{placeIn, pageBit, withBit, placeFor, inPage, emptied}
 use Rattle.store.specs.declared.Geometry.{Geometry}
-use Rattle.store.proofs.Known.{page-lt, slot-lt}
-use Rattle.store.proofs.Places.{length-emptied}
+use Rattle.store.proofs.Known.{holds-are, page-lt, slot-lt}
+use Rattle.store.proofs.Places.{emptied-apart, length-emptied}
 use Rattle.store.proofs.View.{length-with, opened-with, generation-with, bits-with, place-with, length-bumped, opened-bumped, generation-bumped, bits-bumped, place-bumped, length-put, opened-put, generation-put, bits-put, place-put, fitting-each, opened-each, generation-each, bits-each, place-each}
-use Rattle.cache.specs.Calls.{insertedIn, evicted}
+use Rattle.cache.specs.Calls.{insertedIn, watched, evicted, noticedIn, droppedIn, reportIn}
 
 -- emptying keeps a place's length
 keeps : (g : Geometry) (s : List ℕ) → Fitting g s → (w : ℕ) (p : List ℕ) → length p ≡ g .stride → length (emptied w p) ≡ g .stride
@@ -54,6 +57,26 @@ module _ (g : Geometry) (s : List ℕ) (f : Fitting g s) (a : ℕ) (h : holds g 
   unfolding evicted cleared here
   place-evicted i b = place-each g cleared cleared-fits (emptied here) (keeps g s f here) i b ∙ ap (emptied here) (place-with g s f (memoryPage g a) false in-memory i)
 
+  -- its bit is no part of a place
+  pub dropped-cleared : droppedIn g (withBit s (memoryPage g a) false) a ≡ droppedIn g s a
+  dropped-cleared = count-same (2 ^ g .e) _ _ (λ i b. ap (inPage (a / 4096)) (place-with g s f (memoryPage g a) false in-memory i))
+
+  -- a notice in another page finds its bit and its places as they were
+  module _ (b : ℕ) (apart : a / 4096 ≡ b / 4096 → ⊥) (inside : holds g b ≡ true) where
+    other-page : memoryPage g a ≡ memoryPage g b → ⊥
+    other-page e = apart (omega (arith, holds-are g a h, holds-are g b inside, f .bounds .aligned))
+
+    bit-apart : pageBit (evicted g s a) (memoryPage g b) ≡ pageBit s (memoryPage g b)
+    bit-apart = bits-evicted (memoryPage g b) (page-lt g b inside) ∙ rw (ne-eqb (memoryPage g a) (memoryPage g b) other-page)
+
+    dropped-apart : droppedIn g (evicted g s a) b ≡ droppedIn g s b
+    dropped-apart =
+        count-same (2 ^ g .e) _ _
+        (λ i c. ap (inPage (b / 4096)) (place-evicted i c) ∙ emptied-apart (a / 4096) (b / 4096) (placeIn g s i) apart (omega (arith, holds-are g b inside, f .bounds .below)))
+
+    pub evicted-apart : reportIn g (evicted g s a) b ≡ reportIn g s b
+    evicted-apart = rw (inside, bit-apart, dropped-apart)
+
   -- the page's bit is on, the generation one up, and the slot's place holds the record
   module _ (rec : List ℕ) (l : length (placeFor g rec) ≡ g .stride) where
     marked : List ℕ
@@ -91,3 +114,12 @@ module _ (g : Geometry) (s : List ℕ) (f : Fitting g s) (a : ℕ) (h : holds g 
     place-inserted i =
         place-put g (bumped marked) moved-fits (slotOf g a) (placeFor g rec) (slot-lt g a) l i
         ∙ ap (cond (eqb (slotOf g a) i) (placeFor g rec)) (place-bumped g marked marked-fits i ∙ place-with g s f (memoryPage g a) true in-memory i)
+
+-- the report of a notice is that of the store before a notice in another page: a write's sum may be taken before it or on the way
+pub report-apart : (g : Geometry) (s : List ℕ) → Fitting g s → (a b : ℕ) → (a / 4096 ≡ b / 4096 → ⊥) → reportIn g (noticedIn g s a) b ≡ reportIn g s b
+report-apart g s f a b apart = go (watched g s a) refl (holds g b) refl
+  where
+    go : (t : Bool) → watched g s a ≡ t → (u : Bool) → holds g b ≡ u → reportIn g (noticedIn g s a) b ≡ reportIn g s b
+    go true e true i = rw e (evicted-apart g s f a (and-both (holds g a) _ e .0) b apart i)
+    go true e false i = rw i
+    go false e u i = rw e

@@ -203,7 +203,7 @@ fn evict(store: &mut [u8], g: Geometry, address: u64) -> u64
 // A notice in a store whose header was checked.
 pub fn notice_in(store: &mut [u8], g: Geometry, address: u64) -> Report
     requires { ⌜ Fitting g (now store) ⌝ }
-    ensures { λ r. ⌜ (r, now (store .exit)) ≡ (reportIn g (now (store .entry)) address, noticedIn g (now (store .entry)) address) ⌝ }
+    ensures { λ r. ⌜ (r ≡ reportIn g (now (store .entry)) address) × (now (store .exit) ≡ noticedIn g (now (store .entry)) address) ⌝ }
 {
     if watched(store, g, address) {
         let dropped = evict(store, g, address);

@@ -1,17 +1,21 @@
 -- Laws of places: lengths, and what a walk over all of them leaves. Nothing here depends on how many bytes a place has.
 -- Assumes nothing.
-use mathlib.Core.Path.{_≡_, refl, sym, ap, _∙_}
+use mathlib.Core.Path.{_≡_, refl, sym, ap, ap₂, _∙_}
 use mathlib.Core.Bool.{Bool, true, false, cond}
 use mathlib.Core.List.{List, _++_, append-assoc}
 use Prim.Native.Nat.{ℕ, zero, suc, _+_, _-_, _*_, _/_, _≤_, _<_}
 use native.Mathlib.Omega.{arith}
 use native.Mathlib.Nat.{mul-suc, mul-zero}
+use native.Mathlib.Numerals.{add-one}
 use lib.Dec.{eqb}
+use borrow.Author.Tests.{eqb-true, ne-eqb}
 use lib.ListN.{length, drop, replicate, length-append, length-replicate, replicate-append-replicate}
 use Rattle.bits.specs.Bytes.{le, part, patch, doublewordAt}
-use Rattle.bits.proofs.Bytes.{length-le, length-patch, length-part, le-zero, le-cons, patch-append}
+use Rattle.bits.proofs.Bytes.{length-le, length-patch, length-part, part-behind, le-zero, le-cons, patch-append}
 use Rattle.store.specs.Layout.{signature, header, front}
-use Rattle.store.specs.Places.{emptyPlace, emptied, vacated, eachPlace, copies}
+use Rattle.bits.specs.Count.{count}
+use Rattle.bits.proofs.Count.{count-le}
+use Rattle.store.specs.Places.{emptyPlace, inPage, emptied, vacated, eachPlace, placesIn, copies}
 use Rattle.store.specs.declared.Geometry.{Geometry}
 use Rattle.store.proofs.Known.{after}
 
@@ -26,6 +30,23 @@ empty-made z h = ap (λ (l : List ℕ). replicate 8 255 ++ drop 8 l) (ap (λ (n 
 pub length-empty : (z : ℕ) → 8 ≤ z → length (emptyPlace z) ≡ z
 unfolding emptyPlace
 length-empty z h = simp (length-append, length-replicate) (omega arith)
+
+-- no page of memory has the address of an empty place
+pub empty-address : (z : ℕ) → doublewordAt (emptyPlace z) 0 ≡ 0xFFFF_FFFF_FFFF_FFFF
+unfolding emptyPlace
+empty-address z = refl
+
+-- emptying the places of one page leaves another page's as they were
+pub emptied-apart : (w v : ℕ) (p : List ℕ) → (w ≡ v → ⊥) → v < 0xF_FFFF_FFFF_FFFF → inPage v (emptied w p) ≡ inPage v p
+unfolding emptied
+emptied-apart w v p n low = go (inPage w p) refl
+  where
+    go : (b : Bool) → inPage w p ≡ b → inPage v (cond b (emptyPlace (length p)) p) ≡ inPage v p
+    go true e =
+        let here : doublewordAt p 0 / 4096 ≡ w = eqb-true _ _ e in
+        ne-eqb (doublewordAt (emptyPlace (length p)) 0 / 4096) v (λ q. omega (arith, empty-address (length p)))
+        ∙ sym (ne-eqb (doublewordAt p 0 / 4096) v (λ q. n (sym here ∙ q)))
+    go false e = refl
 
 pub length-emptied : (w : ℕ) (p : List ℕ) → 8 ≤ length p → length (emptied w p) ≡ length p
 unfolding emptied
@@ -51,6 +72,17 @@ module _ (f : List ℕ → List ℕ) (first z : ℕ) (keeps : (p : List ℕ) →
       let k : length (f p) ≡ z = keeps p (length-part (eachPlace f first z n s) (first + z * n) z (omega arith)) in
       length-patch (eachPlace f first z n s) (first + z * n) (f p) (omega arith) ∙ l
 
+  -- the places that the walk has not come to are as they were
+  pub part-each : (n k : ℕ) (s : List ℕ) → n ≤ k → first + z * k + z ≤ length s → part (eachPlace f first z n s) (first + z * k) z ≡ part s (first + z * k) z
+  unfolding eachPlace
+  part-each zero k s h r = refl
+  part-each (suc n) k s h r =
+      let next = after z n k (omega arith) in
+      let l = length-each n s (omega arith) in
+      let p = part (eachPlace f first z n s) (first + z * n) z in
+      let w : length (f p) ≡ z = keeps p (length-part (eachPlace f first z n s) (first + z * n) z (omega arith)) in
+      part-behind (eachPlace f first z n s) (first + z * n) (f p) (first + z * k) z (omega arith) (omega arith) ∙ part-each n k s (omega arith) r
+
 -- a loop over n places, after i turns: the first i are made, and `at` is where the next begins
 abbrev pub Walking : (List ℕ → List ℕ) → ℕ → ℕ → ℕ → List ℕ → List ℕ → ℕ → ℕ → Type 0
 Walking make first z n s store i at = (i ≤ n) × (at ≡ first + z * i) × (store ≡ eachPlace make first z i s) × (length store ≡ length s)
@@ -61,6 +93,21 @@ walking-begins make first z n s = (omega arith, omega (arith, mul-zero z), refl,
 
 pub walking-fits : (make : List ℕ → List ℕ) (first z n : ℕ) (s store : List ℕ) (i at : ℕ) → Walking make first z n s store i at → i < n → first + z * n ≤ length s → at + z ≤ length store
 walking-fits make first z n s store i at w h f = let next = after z i n h in omega (arith, w .1, w .3)
+
+-- a loop that also counts the places in a page: after one more turn
+module _ (page first z n : ℕ) (s store : List ℕ) (i at dropped one : ℕ) (w : Walking (emptied page) first z n s store i at) (lt : i < n) where
+  pub counting : 8 ≤ z → first + z * n ≤ length s → dropped ≡ placesIn page first z i s → one ≡ cond (inPage page (part store at z)) 1 0 → (dropped + one ≡ placesIn page first z (i + 1) s) × (dropped + one ≤ i + 1)
+  unfolding count
+  counting room fits e o = rw add-one (sum, rw sum (count-le (suc i) (λ k. inPage page (part s (first + z * k) z))))
+    where
+      next : first + z * i + z ≤ length s
+      next = omega (arith, after z i n lt)
+
+      here : part store at z ≡ part s (first + z * i) z
+      here = ap₂ (λ (t : List ℕ) (k : ℕ). part t k z) (w .2) (w .1) ∙ part-each (emptied page) first z (λ p l. length-emptied page p (rw l room) ∙ l) i i s (omega arith) next
+
+      sum : dropped + one ≡ placesIn page first z i s + cond (inPage page (part s (first + z * i) z)) 1 0
+      sum = ap₂ _+_ e (o ∙ ap (λ (p : List ℕ). cond (inPage page p) 1 0) here)
 
 pub length-copies : (n : ℕ) (p : List ℕ) (z : ℕ) → length p ≡ z → length (copies n p) ≡ z * n
 unfolding copies

@@ -1,23 +1,26 @@
 -- What the checks of an accepted write have shown, and how large a notice's report is.
 -- Assumes nothing.
-use mathlib.Core.Path.{_≡_, refl, sym, ap, subst}
+use mathlib.Core.Path.{_≡_, refl, sym, subst}
 use mathlib.Core.Bool.{Bool, true, false, cond}
 use mathlib.Core.List.{List}
-use Prim.Native.Nat.{ℕ, _+_, _*_, _^_, _≤_}
+use Prim.Native.Nat.{ℕ, _+_, _*_, _/_, _^_, _≤_}
 use native.Mathlib.Omega.{arith}
 use lib.Dec.{eqb}
 use borrow.Author.Tests.{eqb-true, ne-eqb}
+use Rattle.bits.proofs.Count.{count-le}
 use Rattle.bits.proofs.Every.{decide}
 use Rattle.bits.proofs.Tests.{true-false}
 use Rattle.block.specs.Memory.{spans}
 use Rattle.block.proofs.Places.{spanned}
 use Rattle.store.specs.Layout.{opened, Bounded}
+use Rattle.store.specs.Places.{placeIn, inPage}
 use Rattle.store.specs.declared.Geometry.{Geometry}
 use Rattle.store.specs.declared.Opened.{Opened}
 use Rattle.store.specs.declared.Opened.the-variants.{Sound, NotAStore}
 use Rattle.store.proofs.Known.{slots-le}
 use Rattle.cache.proofs.Checks.{rejected}
-use Rattle.cache.specs.Calls.{watched, evicted, noticedIn}
+use Rattle.cache.specs.Answers.{nothingDone}
+use Rattle.cache.specs.Calls.{watched, droppedIn, reportIn}
 use Rattle.answer.specs.declared.Refusal.the-variants.{BadGeometry, OutsideMemory, WrongWriteSize}
 use Rattle.cache.specs.declared.Judged.the-variants.{Accepted, Rejected}
 use Rattle.cache.specs.declared.Report.{Report}
@@ -62,9 +65,12 @@ module _ (s : List ℕ) (len a n : ℕ) (g : Geometry) where
       go (Sound k) e q = tests k e (eqb len (4096 * k .pages)) (goodSize n) (spans (4096 * k .pages) (k .base) a n) refl refl refl q
       go NotAStore e q = absurd (rejected q)
 
-pub report-small : (g : Geometry) (s : List ℕ) (a : ℕ) (r : Report) (t : List ℕ) → Bounded g → (r, t) ≡ noticedIn g s a → r .examined ≤ 16384
-report-small g s a r t b e = rw (ap (λ (p : Report × List ℕ). p .0 .examined) e) (go (watched g s a))
+abbrev Small : Report → Type 0
+Small r = (r .examined ≤ 16384) × (r .dropped ≤ 16384)
+
+pub report-small : (g : Geometry) (s : List ℕ) (a : ℕ) (r : Report) → Bounded g → r ≡ reportIn g s a → Small r
+report-small g s a r b e = subst Small (sym e) (go (watched g s a))
   where
-    go : (x : Bool) → cond {A = Report × List ℕ} x (record { examined = 2 ^ g .e }, evicted g s a) (record { examined = 0 }, s) .0 .examined ≤ 16384
-    go true = slots-le g b
-    go false = omega arith
+    go : (x : Bool) → Small (cond x (record { examined = 2 ^ g .e; dropped = droppedIn g s a }) nothingDone)
+    go true = (slots-le g b, omega (arith, slots-le g b, count-le (2 ^ g .e) (λ i. inPage (a / 4096) (placeIn g s i))))
+    go false = (omega arith, omega arith)

@@ -48,7 +48,7 @@ fn judge_write(store: &[u8], len: usize, address: u64, n: u64) -> Judged
 // A notice for the page of the first byte, and one for that of the last where it is another.
 fn notice_pages(store: &mut [u8], g: Geometry, address: u64, last: u64) -> Report
     requires { ⌜ Fitting g (now store) ⌝ }
-    ensures { λ r. ⌜ (r, now (store .exit)) ≡ (reportPages g (now (store .entry)) address last, noticedPages g (now (store .entry)) address last) ⌝ }
+    ensures { λ r. ⌜ (r ≡ reportPages g (now (store .entry)) address last) × (now (store .exit) ≡ noticedPages g (now (store .entry)) address last) ⌝ }
 {
     let first = cache::notice_in(store, g, address);
     if address / PAGE == last / PAGE {

@@ -1,6 +1,6 @@
 -- `cache::notice` meets its contract: the header, and then the notice.
 -- Assumes nothing.
-use mathlib.Core.Path.{_≡_, sym, ap, _∙_}
+use mathlib.Core.Path.{_≡_, sym, ap₂, _∙_}
 use mathlib.Core.List.{List}
 use Prim.Native.Nat.{ℕ}
 use Rattle.store.specs.declared.Opened.the-variants.{Sound}
@@ -24,6 +24,6 @@ notice-spec =
     (λ c. search needs) (λ c. search needs)
     (λ c.
     let done = c .before .before in
-    rw (good (done .before .before)) (ap (λ (p : Report × List ℕ). (Reported (p .0), p .1)) (done .notice-in .ensures)))
+    rw (good (done .before .before)) (ap₂ (λ (r : Report) (s : List ℕ). (Reported r, s)) (done .notice-in .ensures .0) (done .notice-in .ensures .1)))
     (λ c. search needs)
     (λ c. rw (sym (c .before .before .«open» .ensures) ∙ c .enum-told .given .1)))

@@ -1,6 +1,6 @@
 -- `cache::notice_in` meets its contract: nothing, or the page's places emptied.
 -- Assumes nothing.
-use mathlib.Core.Path.{sym, _∙_}
+use mathlib.Core.Path.{refl, sym, _∙_}
 use Rattle.bits.proofs.Tests.{and-both}
 use borrow.Author.Needs.{needs}
 use Rattle.cache.proofs.notice_in.Statement.{statement}
@@ -14,9 +14,9 @@ notice-in-spec =
     (λ c κs.
     let test = c .before .before in
     (test .before .before .before .pre, and-both _ _ (sym (test .watched .ensures) ∙ c .before .if1 .taken) .0))
-    (λ c κs. search needs) (λ c. search needs)
+    (λ c κs. search needs) (λ c κs. search needs) (λ c. search needs)
     (λ c.
     let done = c .before .before .before in
-    rw (sym (done .before .before .before .watched .ensures) ∙ done .before .before .if1 .taken, c .slots .ensures .0, done .evict .ensures))
+    rw (sym (done .before .before .before .watched .ensures) ∙ done .before .before .if1 .taken, c .slots .ensures .0, done .evict .ensures .0) (refl, done .evict .ensures .1))
     (λ c. search needs)
-    (λ c. rw (sym (c .before .watched .ensures) ∙ c .if1 .left)))
+    (λ c. rw (sym (c .before .before .watched .ensures) ∙ c .before .if1 .left) (c .nothing .ensures, refl)))

@@ -1,9 +1,7 @@
--- `unvriscol::uv_notice` meets its contract: number and value are the answer's, and the bytes are as the call leaves them.
+-- `unvriscol::uv_notice` meets its contract: number and report are the answer's, and the bytes are as the call leaves them.
 -- Assumes nothing.
-use mathlib.Core.Path.{refl}
-use Rattle.cache.specs.Answers.{reportNumber, reportValue}
-use Rattle.unvriscol.specs.Seen.{both}
-use Rattle.unvriscol.proofs.Passed.{both-passed, passed}
+use Rattle.unvriscol.specs.Seen.{reportSeen}
+use Rattle.unvriscol.proofs.Passed.{report-passed, passed}
 use borrow.Author.Needs.{needs}
 use Rattle.unvriscol.proofs.uv_notice.Statement.{statement}
 use Rattle.unvriscol.proofs.uv_notice.Tie as tie
@@ -15,6 +13,4 @@ uv-notice-spec =
     (λ c κs. search needs) (λ c κs. search needs) (λ c κs. search needs) (λ c. search needs)
     (λ c.
     let called = c .before .before .before .before .notice in
-    passed (both reportNumber reportValue) (called .result)
-    (both-passed reportNumber reportValue (called .result) (c .before .number .ensures) (c .value .ensures) refl)
-    (called .ensures)))
+    passed reportSeen (called .result) (report-passed (called .result) (c .before .number .ensures) (c .report .ensures)) (called .ensures)))

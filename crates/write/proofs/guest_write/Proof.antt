@@ -1,6 +1,6 @@
 -- `write::guest_write` meets its contract: decided first; then the notices, then the bytes.
 -- Assumes nothing.
-use mathlib.Core.Path.{sym, ap, _∙_}
+use mathlib.Core.Path.{sym, ap₂, _∙_}
 use mathlib.Core.List.{List}
 use Prim.Native.Nat.{ℕ, _-_}
 use native.Mathlib.Omega.{arith}
@@ -37,6 +37,6 @@ guest-write-spec =
     let a = known .before .before .before .before .before .before .before .args in
     let memory = patch (a .memory .now) (a .address - known .before .g .given .0 .0 .base) (le (a .n) (a .value)) in
     rw (sym (known .before .before .before .judge-write .ensures) ∙ known .before .g .given .1, put .put-low .ensures)
-    (ap (λ (p : Report × List ℕ). (Reported (p .0), p .1, memory)) (touch .notice-pages .ensures)))
+    (ap₂ (λ (r : Report) (s : List ℕ). (Reported r, s, memory)) (touch .notice-pages .ensures .0) (touch .notice-pages .ensures .1)))
     (λ c. search needs)
     (λ c. rw (sym (c .before .before .before .judge-write .ensures) ∙ c .before .why .given .1)))
