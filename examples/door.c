@@ -37,6 +37,10 @@ static void answer(const char *what, uv_answer a) {
     printf("%-34s %" PRIu64 "  0x%" PRIX64 "\n", what, a.number, a.value);
 }
 
+static void report(const char *what, uv_report r) {
+    printf("%-34s %" PRIu64 "  %" PRIu64 " examined, %" PRIu64 " dropped\n", what, r.number, r.examined, r.dropped);
+}
+
 static void number(const char *what, uint64_t n) {
     printf("%-34s %" PRIu64 "\n", what, n);
 }
@@ -83,17 +87,17 @@ static void round_of_the_cache(void) {
     memcpy(record, store + hit.value, sizeof record);
     number("insert it again, by a copy", uv_insert(store, sizeof store, ROUTINE, record, sizeof record));
 
-    answer("write to the other page", uv_guest_write(store, sizeof store, memory, sizeof memory, 0x2000, 8, 1));
+    report("write to the other page", uv_guest_write(store, sizeof store, memory, sizeof memory, 0x2000, 8, 1));
     answer("lookup: still there", uv_lookup(store, sizeof store, ROUTINE));
-    answer("write into the block", uv_guest_write(store, sizeof store, memory, sizeof memory, ROUTINE + 4, 2, 0x0001));
+    report("write into the block", uv_guest_write(store, sizeof store, memory, sizeof memory, ROUTINE + 4, 2, 0x0001));
     answer("lookup: gone", uv_lookup(store, sizeof store, ROUTINE));
-    answer("write past the end: refused", uv_guest_write(store, sizeof store, memory, sizeof memory, 0x2FFF, 2, 0));
+    report("write past the end: refused", uv_guest_write(store, sizeof store, memory, sizeof memory, 0x2FFF, 2, 0));
 
     number("form: c.nop now, and no c.jr", uv_form(memory, sizeof memory, BASE, ROUTINE, record, sizeof record));
     op("  its second op", record + UV_BLOCK_AT_OPS + UV_OP_RECORD);
     number("insert", uv_insert(store, sizeof store, ROUTINE, record, sizeof record));
-    answer("notice of a write elsewhere", uv_notice(store, sizeof store, 0x2000));
-    answer("notice of a write to its page", uv_notice(store, sizeof store, 0x1FFF));
+    report("notice of a write elsewhere", uv_notice(store, sizeof store, 0x2000));
+    report("notice of a write to its page", uv_notice(store, sizeof store, 0x1FFF));
     number("flush", uv_flush(store, sizeof store));
     answer("generation", uv_generation(store, sizeof store));
 }

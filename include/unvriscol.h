@@ -1,5 +1,5 @@
 /* Unvriscol in C: RISC-V decoding, block forming, a block cache, and the ALU without multiply and divide. Each function is proved: on all inputs it
- * ends, and its number, its value and every lent byte afterwards are what docs/PROMISES.md says. docs/FORMATS.md has the formats with drawings.
+ * ends, and its number, what stands beside it and every lent byte afterwards are what docs/PROMISES.md says. docs/FORMATS.md has the formats with drawings.
  *
  * Link target/staticlib/libunvriscol.a, which `rt staticlib unvriscol` writes, for x86-64 Linux. Of the C library it needs memcpy and memset.
  * examples/door.c makes every call.
@@ -19,9 +19,9 @@
 #include <stddef.h>
 #include <stdint.h>
 
-/* This header's version, as one number that grows: 100 is 0.1.0. */
+/* This header's version, as one number that grows: 200 is 0.2.0. */
 #define UNVRISCOL_VERSION_MAJOR 0
-#define UNVRISCOL_VERSION_MINOR 1
+#define UNVRISCOL_VERSION_MINOR 2
 #define UNVRISCOL_VERSION_PATCH 0
 #define UNVRISCOL_VERSION (10000 * UNVRISCOL_VERSION_MAJOR + 100 * UNVRISCOL_VERSION_MINOR + UNVRISCOL_VERSION_PATCH)
 
@@ -31,7 +31,7 @@ extern "C" {
 
 /* ---- What a call answers (docs/FORMATS.md, "Answer numbers") */
 
-/* The numbers. On every one but UV_DONE the value beside it is 0, and no lent byte has changed. */
+/* The numbers. On every one but UV_DONE each value beside it is 0, and no lent byte has changed. */
 #define UV_DONE 0           /* done, or a hit */
 #define UV_NO_STORE 1       /* the store's length or header is not a store's */
 #define UV_GEOMETRY 2       /* memory or e outside the bounds below, or memory length not that of the store */
@@ -48,6 +48,13 @@ typedef struct {
     uint64_t number;
     uint64_t value;
 } uv_answer;
+
+/* A number, and beside it what a notice or a guest write did. */
+typedef struct {
+    uint64_t number;
+    uint64_t examined; /* slots that were looked at: 2^e for each page with its bit set */
+    uint64_t dropped;  /* places that were emptied: those whose address lay in such a page, in the store as it was before the call */
+} uv_report;
 
 /* ---- The bounds (docs/FORMATS.md, "Bounds"); UV_GEOMETRY is the answer outside them */
 
@@ -179,9 +186,10 @@ uv_answer uv_lookup(const uint8_t *store, size_t store_len, uint64_t address);
 uint64_t uv_insert(uint8_t *store, size_t store_len, uint64_t address, const uint8_t *record, size_t record_len);
 
 /* Tell the cache of a write at an address, after the write and before the next lookup: the blocks of its page are dropped. A write that crosses into
- * a second page needs a notice for each. The value is the slots examined: 2^e, or 0 where the page has had no insertion since it was last dropped or
- * the address is outside memory. Refusal: 1. */
-uv_answer uv_notice(uint8_t *store, size_t store_len, uint64_t address);
+ * a second page needs a notice for each. examined is 2^e, or 0 where the page has had no insertion since it was last dropped or the address is outside
+ * memory. Where only calls have changed the store, dropped is above 0 exactly when a lookup of some address of the page would have hit just before.
+ * Refusal: 1. */
+uv_report uv_notice(uint8_t *store, size_t store_len, uint64_t address);
 
 /* Drop every block; the generation is kept. Refusal: 1. */
 uint64_t uv_flush(uint8_t *store, size_t store_len);
@@ -190,8 +198,8 @@ uint64_t uv_flush(uint8_t *store, size_t store_len);
 uv_answer uv_generation(const uint8_t *store, size_t store_len);
 
 /* Write the low 1, 2, 4 or 8 bytes of a value to guest memory, after a notice for each page touched. The memory is all of that of the store: its
- * first byte has the store's base for address. The value returned is the slots examined. Refusals: 1, 2, 8, 3. */
-uv_answer uv_guest_write(uint8_t *store, size_t store_len, uint8_t *memory, size_t memory_len, uint64_t address, uint64_t size,
+ * first byte has the store's base for address. examined and dropped are the sums over its pages. Refusals: 1, 2, 8, 3. */
+uv_report uv_guest_write(uint8_t *store, size_t store_len, uint8_t *memory, size_t memory_len, uint64_t address, uint64_t size,
                          uint64_t value);
 
 #ifdef __cplusplus

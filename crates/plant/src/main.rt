@@ -1,5 +1,6 @@
 // The plant's story on our cache: a loader puts a new routine into guest memory, first by a guest write, then behind the cache's back.
 // docs/PLANT.md tells it and says which theorem speaks of each step.
+use cache::ReportAnswer;
 use libc::STDOUT_FILENO;
 
 // Where the contactor's routine stands. Its first op loads x10 with 0, hold open, or with 1, close; a return follows.
@@ -20,13 +21,20 @@ fn end(n: u64) {
     text(b"\n");
 }
 
-// A guest write, and the slots that it examined.
+// What a notice or a guest write did.
+fn reported(answer: ReportAnswer) {
+    let report = answer.report();
+    io::print_decimal(STDOUT_FILENO, answer.number());
+    text(b", slots examined ");
+    io::print_decimal(STDOUT_FILENO, report.examined);
+    text(b", blocks dropped ");
+    end(report.dropped);
+}
+
 fn write(store: &mut [u8], memory: &mut [u8], address: u64, n: u64, value: u64) {
     let answer = write::guest_write(store, memory, address, n, value);
     text(b"  guest write: ");
-    io::print_decimal(STDOUT_FILENO, answer.number());
-    text(b", slots examined ");
-    end(answer.value());
+    reported(answer);
 }
 
 // What x10 is loaded with by the block that a lookup shows.
@@ -88,9 +96,7 @@ fn untold() {
     lookup(&store);
     let answer = cache::notice(&mut store, ROUTINE);
     text(b"  notice: ");
-    io::print_decimal(STDOUT_FILENO, answer.number());
-    text(b", slots examined ");
-    end(answer.value());
+    reported(answer);
     lookup(&store);
     form_and_insert(&mut store, &memory);
     lookup(&store);

@@ -1,9 +1,10 @@
 // Runs the Rust's own answers again: host/compare wrote them down (`cargo run --release -p compare -- --replay ../crates/replay` in host/), and this
 // program needs no Rust. It makes the same calls and prints how many entries it found the same. The input is 16 pages of memory, and then entries of
-// 32 bytes; host/compare/src/replay.rs says what they hold.
+// 40 bytes; host/compare/src/replay.rs says what they hold.
 ghost use mathlib.Core.Path.{_≡_};
 ghost use Prim.Native.Nat.{_<_, _^_};
 ghost use lib.ListN.{length};
+use cache::ReportAnswer;
 use libc::STDIN_FILENO;
 use libc::STDOUT_FILENO;
 
@@ -21,10 +22,11 @@ struct Entry {
     a: u64,
     b: u64,
     value: u64,
+    dropped: u64,
 }
 
 fn parsed(s: &[u8]) -> Entry
-    requires { ⌜ length (now s) ≡ 32 ⌝ }
+    requires { ⌜ length (now s) ≡ 40 ⌝ }
 {
     Entry {
         tag: s[0],
@@ -34,6 +36,7 @@ fn parsed(s: &[u8]) -> Entry
         a: bits::doubleword_at(s, 8),
         b: bits::doubleword_at(s, 16),
         value: bits::doubleword_at(s, 24),
+        dropped: bits::doubleword_at(s, 32),
     }
 }
 
@@ -77,7 +80,7 @@ fn next(input: u64) -> Taken
     requires { ⌜ input < 2 ^ 32 ⌝ }
     ensures { λ r. ⌜ r .input < 2 ^ 32 ⌝ }
 {
-    let mut s = [0u8; 32];
+    let mut s = [0u8; 40];
     let n = io::read_full(STDIN_FILENO, &mut s);
     Taken {
         input: with_bytes(input, &s[..n]),
@@ -143,6 +146,14 @@ fn both(entry: Entry, number: u64, value: u64) -> bool {
     value == entry.value
 }
 
+fn reported(entry: Entry, answer: ReportAnswer) -> bool {
+    let report = answer.report();
+    if both(entry, answer.number(), report.examined) {
+        return report.dropped == entry.dropped;
+    }
+    false
+}
+
 fn alu(entry: Entry) -> bool {
     let answer = alu::alu_call(entry.small, entry.a, entry.b);
     both(entry, answer.number(), answer.value())
@@ -165,8 +176,7 @@ fn insert(entry: Entry, memory: &[u8], store: &mut [u8]) -> bool {
 }
 
 fn notice(entry: Entry, store: &mut [u8]) -> bool {
-    let answer = cache::notice(store, entry.a);
-    both(entry, answer.number(), answer.value())
+    reported(entry, cache::notice(store, entry.a))
 }
 
 fn generation(entry: Entry, store: &[u8]) -> bool {
@@ -175,8 +185,10 @@ fn generation(entry: Entry, store: &[u8]) -> bool {
 }
 
 fn guest_write(entry: Entry, memory: &mut [u8], store: &mut [u8]) -> bool {
-    let answer = write::guest_write(store, memory, entry.a, entry.small, entry.b);
-    both(entry, answer.number(), answer.value())
+    reported(
+        entry,
+        write::guest_write(store, memory, entry.a, entry.small, entry.b),
+    )
 }
 
 // Every byte of store and memory.

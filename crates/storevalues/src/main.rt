@@ -1,4 +1,6 @@
-// The store's lengths and values (docs/FORMATS.md, Values), run through the calls. Each line shows a call's number and value.
+// The store's lengths and values (docs/FORMATS.md, Values), run through the calls. Each line shows a call's number and value; of a notice and a write
+// the slots examined and the places dropped.
+use cache::ReportAnswer;
 use libc::STDOUT_FILENO;
 use store::Geometry;
 
@@ -7,6 +9,13 @@ fn line(number: u64, value: u64) {
     io::write_all(STDOUT_FILENO, b" ");
     io::print_decimal(STDOUT_FILENO, value);
     io::write_all(STDOUT_FILENO, b"\n");
+}
+
+fn reported(answer: ReportAnswer) {
+    let report = answer.report();
+    io::print_decimal(STDOUT_FILENO, answer.number());
+    io::write_all(STDOUT_FILENO, b" ");
+    line(report.examined, report.dropped);
 }
 
 // The length that Make asks for.
@@ -55,13 +64,11 @@ fn lookup(store: &[u8], address: u64) {
 }
 
 fn notice(store: &mut [u8], address: u64) {
-    let answer = cache::notice(store, address);
-    line(answer.number(), answer.value());
+    reported(cache::notice(store, address));
 }
 
 fn write(store: &mut [u8], memory: &mut [u8], address: u64, n: u64) {
-    let answer = write::guest_write(store, memory, address, n, 0x1122_3344_5566_7788);
-    line(answer.number(), answer.value());
+    reported(write::guest_write(store, memory, address, n, 0x1122_3344_5566_7788));
 }
 
 fn generation(store: &[u8]) {
@@ -101,6 +108,17 @@ fn displaced() {
     generation(&store);
 }
 
+// The only block of a page is displaced by another page's: all slots are examined, and none of them has a block to drop.
+fn displaced_by_another_page() {
+    let mut store = [0u8; 4200];
+    line(cache::make(&mut store, 2, 0, 2).number(), 0);
+    insert(&mut store, 0x10);
+    insert(&mut store, 0x1010);
+    notice(&mut store, 0x10);
+    lookup(&store, 0x1010);
+    notice(&mut store, 0x1010);
+}
+
 // Outside memory, a wrong size, a write past the end and one at the top of all addresses.
 fn refused() {
     let mut store = [0u8; 4200];
@@ -132,6 +150,7 @@ fn main() {
     share(14, 0x100, 0x102);
     pages();
     displaced();
+    displaced_by_another_page();
     refused();
     no_store();
 }

@@ -277,7 +277,7 @@ impl Calls for Cache {
                 let (at, len) = (self.store.as_mut_ptr(), self.store.len());
                 self.addresses
                     .iter()
-                    .map(|&address| unsafe { door::uv_notice(at, len, address) }.value)
+                    .map(|&address| unsafe { door::uv_notice(at, len, address) }.dropped)
                     .sum()
             }
             // One load per place at the places' stride.

@@ -1,14 +1,66 @@
 //! Histories of cache calls: against the model at every slot count, with refusals and stores that were scribbled on; and against the original's
 //! `BlockCache` at its own.
 use crate::form::record_of;
-use crate::model::{self, OP, OPS, PAGE, RECORD, Shape};
+use crate::model::{self, OP, OPS, PAGE, RECORD, Report, Shape};
 use crate::{Plan, Tally};
 use oracle::block::{self, BlockCache};
 use oracle::bus::Plain;
 use oracle::made;
 use oracle::mmu::Mmu;
 use oracle::random::Random;
-use unvriscol::door::{self, Answer};
+use unvriscol::door;
+
+/// What a call answers: the number, and what stands beside it.
+#[derive(Clone, Copy, Debug, PartialEq)]
+enum Answer {
+    Valued { number: u64, value: u64 },
+    Reported(door::NumberedReport),
+}
+
+impl Answer {
+    fn valued(answer: Result<u64, u64>) -> Self {
+        let (number, value) = answer.map_or_else(|number| (number, 0), |value| (0, value));
+        Self::Valued { number, value }
+    }
+
+    fn reported(answer: Result<Report, u64>) -> Self {
+        let number = answer.err().unwrap_or(0);
+        let Report { examined, dropped } = answer.unwrap_or_default();
+        Self::Reported(door::NumberedReport {
+            number,
+            examined,
+            dropped,
+        })
+    }
+
+    fn number(self) -> u64 {
+        match self {
+            Self::Valued { number, .. } => number,
+            Self::Reported(report) => report.number,
+        }
+    }
+}
+
+impl From<u64> for Answer {
+    fn from(number: u64) -> Self {
+        Self::Valued { number, value: 0 }
+    }
+}
+
+impl From<door::Answer> for Answer {
+    fn from(answer: door::Answer) -> Self {
+        Self::Valued {
+            number: answer.number,
+            value: answer.value,
+        }
+    }
+}
+
+impl From<door::NumberedReport> for Answer {
+    fn from(report: door::NumberedReport) -> Self {
+        Self::Reported(report)
+    }
+}
 
 /// A call on a store and, for a write, on memory.
 #[derive(Clone, Debug)]
@@ -23,26 +75,21 @@ pub enum Call {
 }
 
 impl Call {
-    pub fn ours(&self, store: &mut [u8], memory: &mut [u8]) -> Answer {
-        let number = |number| Answer { number, value: 0 };
+    fn ours(&self, store: &mut [u8], memory: &mut [u8]) -> Answer {
         let (at, len) = (store.as_mut_ptr(), store.len());
         // SAFETY: each pointer and length are those of one slice, lent for the call.
         unsafe {
             match self {
                 Self::Make(Shape { e, base, pages }) => {
-                    number(door::uv_make(at, len, *e, *base, *pages))
+                    door::uv_make(at, len, *e, *base, *pages).into()
                 }
-                Self::Lookup(address) => door::uv_lookup(at, len, *address),
-                Self::Insert(address, record) => number(door::uv_insert(
-                    at,
-                    len,
-                    *address,
-                    record.as_ptr(),
-                    record.len(),
-                )),
-                Self::Notice(address) => door::uv_notice(at, len, *address),
-                Self::Flush => number(door::uv_flush(at, len)),
-                Self::Generation => door::uv_generation(at, len),
+                Self::Lookup(address) => door::uv_lookup(at, len, *address).into(),
+                Self::Insert(address, record) => {
+                    door::uv_insert(at, len, *address, record.as_ptr(), record.len()).into()
+                }
+                Self::Notice(address) => door::uv_notice(at, len, *address).into(),
+                Self::Flush => door::uv_flush(at, len).into(),
+                Self::Generation => door::uv_generation(at, len).into(),
                 Self::Write {
                     address,
                     size,
@@ -55,29 +102,29 @@ impl Call {
                     *address,
                     *size,
                     *value,
-                ),
+                )
+                .into(),
             }
         }
     }
 
-    pub fn model(&self, store: &mut [u8], memory: &mut [u8]) -> Answer {
-        let answer = match self {
+    fn model(&self, store: &mut [u8], memory: &mut [u8]) -> Answer {
+        Answer::valued(match self {
             Self::Make(shape) => model::make(store, *shape),
             Self::Lookup(address) => model::lookup(store, *address),
             Self::Insert(address, record) => model::insert(store, *address, record),
-            Self::Notice(address) => model::notice(store, *address),
             Self::Flush => model::flush(store),
             Self::Generation => model::generation(store),
+            Self::Notice(address) => return Answer::reported(model::notice(store, *address)),
             Self::Write {
                 address,
                 size,
                 value,
-            } => model::guest_write(store, memory, *address, *size, *value),
-        };
-        match answer {
-            Ok(value) => Answer { number: 0, value },
-            Err(number) => Answer { number, value: 0 },
-        }
+            } => {
+                let written = model::guest_write(store, memory, *address, *size, *value);
+                return Answer::reported(written);
+            }
+        })
     }
 }
 
@@ -377,7 +424,10 @@ fn history(shape: Shape, calls: u64, scribbled: bool, mut random: Random, tally:
             (Call::Insert(_, before), Call::Insert(_, after)) => before == after,
             _ => true,
         };
-        tally.expects(expected.number);
+        tally.expects(expected.number());
+        if let Answer::Reported(report) = expected {
+            tally.expects_dropped(report.dropped);
+        }
         let same = ours == model;
         tally.expect(answer == expected && same && kept, || {
             format!("{shape:x?}, call {step}, {call:x?}: the model gives {expected:?}, ours {answer:?}; lent bytes {}", if same { "the same" } else { "differ" })
@@ -386,7 +436,7 @@ fn history(shape: Shape, calls: u64, scribbled: bool, mut random: Random, tally:
             ours = model.clone();
         }
         if let Call::Write { address, size, .. } = call
-            && answer.number == 0
+            && answer.number() == 0
         {
             // The base is what the header says now.
             let at = (address - model::number(ours.store.bytes(), 8)) as usize;
@@ -427,6 +477,28 @@ pub fn histories(plan: &Plan, tally: &mut Tally) {
     }
 }
 
+/// What the original does by calling `notify_store`, which says nothing: what it examines goes by the pages' marks, and what it drops is counted.
+pub fn reported(
+    rust: &mut BlockCache,
+    slots: u64,
+    pages: &[u64],
+    doing: impl FnOnce(&mut BlockCache),
+) -> Report {
+    let marked = pages.iter().filter(|&&page| block::marked(rust, page));
+    let examined = slots * marked.count() as u64;
+    let before = block::live(rust);
+    doing(rust);
+    Report {
+        examined,
+        dropped: (before - block::live(rust)) as u64,
+    }
+}
+
+/// The pages of a write, counted from address 0.
+pub fn pages_of(address: u64, size: u64) -> Vec<u64> {
+    (address / PAGE..=(address + size - 1) / PAGE).collect()
+}
+
 /// The original's cache beside ours at e = 14: numbers, values and records at each call; all slots, tags and page marks at every 512th.
 pub fn original(plan: &Plan, tally: &mut Tally) {
     for (part, (pages, base)) in [(2, 0), (9, 0x8000_0000), (70, 0x1000)]
@@ -465,76 +537,52 @@ pub fn original(plan: &Plan, tally: &mut Tally) {
                 }
                 call => call,
             };
-            let examined = |address| {
-                let marked = block::marked(&rust, address / PAGE);
-                if marked { block::SLOTS as u64 } else { 0 }
-            };
-            let value = match &call {
+            let slots = block::SLOTS as u64;
+            let expected = match &call {
                 Call::Notice(address) => {
-                    let value = examined(*address);
-                    rust.notify_store(*address);
-                    value
+                    let notice = |rust: &mut BlockCache| rust.notify_store(*address);
+                    let report = reported(&mut rust, slots, &[address / PAGE], notice);
+                    Answer::reported(Ok(report))
                 }
                 Call::Write {
                     address,
                     size,
                     value,
                 } => {
-                    let last = address + size - 1;
-                    let second = if last / PAGE == address / PAGE {
-                        0
-                    } else {
-                        examined(last)
+                    let pages = pages_of(*address, *size);
+                    let write = |rust: &mut BlockCache| {
+                        block::raw_store(&mut mmu, &mut draw.bus, rust, 0, *address, *value, *size)
+                            .expect("no translation")
                     };
-                    let sum = examined(*address) + second;
-                    block::raw_store(
-                        &mut mmu,
-                        &mut draw.bus,
-                        &mut rust,
-                        0,
-                        *address,
-                        *value,
-                        *size,
-                    )
-                    .expect("no translation");
-                    sum
+                    Answer::reported(Ok(reported(&mut rust, slots, &pages, write)))
                 }
                 Call::Flush => {
                     rust.flush_all();
-                    0
+                    Answer::valued(Ok(0))
                 }
-                Call::Generation => rust.code_generation(),
-                _ => 0,
+                Call::Generation => Answer::valued(Ok(rust.code_generation())),
+                Call::Lookup(address) => Answer::valued(match rust.lookup(*address) {
+                    Some(_) => Ok(shape.place_of(*address).start as u64),
+                    None => Err(9),
+                }),
+                Call::Insert(..) | Call::Make(_) => Answer::valued(Ok(0)),
             };
+            if let Answer::Reported(report) = expected {
+                tally.expects_dropped(report.dropped);
+            }
             let answer = call.ours(ours.store.bytes(), ours.memory.bytes());
-            let same = if let Call::Lookup(address) = call {
-                match rust.lookup(address) {
-                    Some(block) => {
-                        let place = shape.place_of(address);
-                        let record = record_of(&block, address);
-                        answer
-                            == Answer {
-                                number: 0,
-                                value: place.start as u64,
-                            }
-                            && ours.store.bytes()[place] == record
-                    }
-                    None => {
-                        answer
-                            == Answer {
-                                number: 9,
-                                value: 0,
-                            }
-                    }
-                }
-            } else {
-                answer == Answer { number: 0, value }
+            let shown = match call {
+                Call::Lookup(address) => rust.lookup(address).is_none_or(|block| {
+                    ours.store.bytes()[shape.place_of(address)] == record_of(&block, address)
+                }),
+                _ => true,
             };
+            let same = answer == expected && shown;
             let whole = step % 512 != 0
                 || (ours.memory.bytes() == draw.bus.bytes
                     && store_of(&rust, shape) == ours.store.bytes());
             tally.expect(same && whole, || {
-                format!("{call:x?}: ours {answer:?}, not what the Rust does (its value {value})")
+                format!("{call:x?}: ours {answer:?}, the Rust's {expected:?}")
             });
         }
         let whole =

@@ -8,6 +8,13 @@ pub const RECORD: usize = 1040;
 
 type Answer = Result<u64, u64>;
 
+/// What a notice or a guest write did: the slots examined and the places emptied.
+#[derive(Clone, Copy, Default)]
+pub struct Report {
+    pub examined: u64,
+    pub dropped: u64,
+}
+
 /// What a store's header says: the exponent of the slot count, the memory's base and its pages.
 #[derive(Clone, Copy, Debug)]
 pub struct Shape {
@@ -59,6 +66,22 @@ impl Shape {
     fn bit(self, address: u64) -> (usize, u8) {
         let page = (address - self.base) / PAGE;
         (32 + page as usize / 8, 1 << (page % 8))
+    }
+
+    /// Whether an address lies in memory, on a page whose bit is set.
+    fn watched(self, store: &[u8], address: u64) -> bool {
+        self.holds(address) && {
+            let (byte, mask) = self.bit(address);
+            store[byte] & mask != 0
+        }
+    }
+
+    /// The places whose address lies in the page of another address.
+    fn in_page(self, store: &[u8], address: u64) -> Vec<Range<usize>> {
+        let places = (0..self.slots()).map(|slot| self.place(slot));
+        places
+            .filter(|place| number(store, place.start) / PAGE == address / PAGE)
+            .collect()
     }
 
     fn header(self, generation: u64) -> [u8; 32] {
@@ -151,24 +174,33 @@ pub fn insert(store: &mut [u8], address: u64, record: &[u8]) -> Answer {
     Ok(0)
 }
 
-/// The value is the count of slots examined.
-pub fn notice(store: &mut [u8], address: u64) -> Answer {
-    let shape = opened(store)?;
-    if !shape.holds(address) {
-        return Ok(0);
+/// What a notice reports, by the store before it.
+fn report(store: &[u8], shape: Shape, address: u64) -> Report {
+    if shape.watched(store, address) {
+        Report {
+            examined: shape.slots(),
+            dropped: shape.in_page(store, address).len() as u64,
+        }
+    } else {
+        Report::default()
     }
-    let (byte, mask) = shape.bit(address);
-    if store[byte] & mask == 0 {
-        return Ok(0);
-    }
-    store[byte] &= !mask;
-    for slot in 0..shape.slots() {
-        let place = &mut store[shape.place(slot)];
-        if number(place, 0) / PAGE == address / PAGE {
-            place.copy_from_slice(&EMPTY);
+}
+
+fn evict(store: &mut [u8], shape: Shape, address: u64) {
+    if shape.watched(store, address) {
+        let (byte, mask) = shape.bit(address);
+        store[byte] &= !mask;
+        for place in shape.in_page(store, address) {
+            store[place].copy_from_slice(&EMPTY);
         }
     }
-    Ok(shape.slots())
+}
+
+pub fn notice(store: &mut [u8], address: u64) -> Result<Report, u64> {
+    let shape = opened(store)?;
+    let report = report(store, shape, address);
+    evict(store, shape, address);
+    Ok(report)
 }
 
 pub fn flush(store: &mut [u8]) -> Answer {
@@ -182,14 +214,14 @@ pub fn generation(store: &[u8]) -> Answer {
     Ok(number(store, 24))
 }
 
-/// The value is the sum of slots examined.
+/// The sums over its pages, both by the store before the call.
 pub fn guest_write(
     store: &mut [u8],
     memory: &mut [u8],
     address: u64,
     size: u64,
     value: u64,
-) -> Answer {
+) -> Result<Report, u64> {
     let shape = opened(store)?;
     if memory.len() as u64 != shape.pages * PAGE {
         return Err(2);
@@ -203,13 +235,18 @@ pub fn guest_write(
     if !(shape.holds(address) && shape.holds(last)) {
         return Err(3);
     }
-    let mut examined = notice(store, address)?;
+    let mut sum = report(store, shape, address);
     if last / PAGE != address / PAGE {
-        examined += notice(store, last)?;
+        let second = report(store, shape, last);
+        sum.examined += second.examined;
+        sum.dropped += second.dropped;
     }
+    // The second does nothing where it is the same page.
+    evict(store, shape, address);
+    evict(store, shape, last);
     let at = (address - shape.base) as usize;
     memory[at..at + size as usize].copy_from_slice(&value.to_le_bytes()[..size as usize]);
-    Ok(examined)
+    Ok(sum)
 }
 
 /// How many kinds an op number has, and whether it has rd, rs1, rs2 and an immediate (or raw).

@@ -1,11 +1,12 @@
 //! Writes down the Rust's own answers for crates/replay, whose program makes the same calls without any Rust and counts the answers that are the
 //! same. `--replay crates/replay` writes what the program reads, `stdin`, and what it is to print, `stdout`.
 //!
-//! First 16 pages of memory, then entries of 32 bytes: tag (1), number (1), a small argument (2), digest (4), two arguments and a value (8 each).
+//! First 16 pages of memory, then entries of 40 bytes: tag (1), number (1), a small argument (2), digest (4), two arguments, a value, which of a notice
+//! and a write is the slots examined, and beside it the places dropped (8 each).
 //! A run is 128 calls with one digest over each call's number and lent bytes, which are 170 beforehand.
-use crate::cache::store_of;
+use crate::cache::{pages_of, reported, store_of};
 use crate::form::record_of;
-use crate::model::{PAGE, RECORD, Shape};
+use crate::model::{PAGE, RECORD, Report, Shape};
 use crate::{alu, record};
 use oracle::block::{self, BlockCache, Op};
 use oracle::bus::Plain;
@@ -75,6 +76,7 @@ struct Entry {
     a: u64,
     b: u64,
     value: u64,
+    dropped: u64,
 }
 
 impl Entry {
@@ -87,6 +89,15 @@ impl Entry {
             a: 0,
             b: 0,
             value: 0,
+            dropped: 0,
+        }
+    }
+
+    fn reported(tag: Tag, Report { examined, dropped }: Report) -> Self {
+        Self {
+            value: examined,
+            dropped,
+            ..Self::new(tag)
         }
     }
 
@@ -94,7 +105,7 @@ impl Entry {
         let mut bytes = vec![self.tag as u8, self.number];
         bytes.extend(self.small.to_le_bytes());
         bytes.extend((self.digest.0 as u32).to_le_bytes());
-        for number in [self.a, self.b, self.value] {
+        for number in [self.a, self.b, self.value, self.dropped] {
             bytes.extend(number.to_le_bytes());
         }
         bytes
@@ -217,10 +228,6 @@ fn histories(bus: &mut Plain, random: &mut Random) -> Vec<Entry> {
         let mut mmu = Mmu::new();
         for step in 1..=500 {
             let a = address(random);
-            let examined = |address: u64| {
-                let marked = block::marked(&rust, address / PAGE);
-                if marked { SHAPE.slots() } else { 0 }
-            };
             let entry = match random.below(100) {
                 0..40 => {
                     let Some(block) = block::decode_block(bus, a) else {
@@ -241,12 +248,9 @@ fn histories(bus: &mut Plain, random: &mut Random) -> Vec<Entry> {
                     },
                 },
                 75..83 => {
-                    let value = examined(a);
-                    rust.notify_store(a);
-                    Entry {
-                        value,
-                        ..Entry::new(Tag::Notice)
-                    }
+                    let notice = |rust: &mut BlockCache| rust.notify_store(a);
+                    let report = reported(&mut rust, SHAPE.slots(), &[a / PAGE], notice);
+                    Entry::reported(Tag::Notice, report)
                 }
                 83..94 => {
                     let size = [1, 2, 4, 8][random.below(4) as usize];
@@ -256,21 +260,17 @@ fn histories(bus: &mut Plain, random: &mut Random) -> Vec<Entry> {
                     } else {
                         a
                     };
-                    let last = a + size - 1;
-                    let second = if last / PAGE == a / PAGE {
-                        0
-                    } else {
-                        examined(last)
+                    let b = random.next();
+                    let write = |rust: &mut BlockCache| {
+                        block::raw_store(&mut mmu, bus, rust, 0, a, b, size)
+                            .expect("no translation")
                     };
-                    let (value, b) = (examined(a) + second, random.next());
-                    block::raw_store(&mut mmu, bus, &mut rust, 0, a, b, size)
-                        .expect("no translation");
+                    let report = reported(&mut rust, SHAPE.slots(), &pages_of(a, size), write);
                     entries.push(Entry {
                         small: size as u16,
                         a,
                         b,
-                        value,
-                        ..Entry::new(Tag::Write)
+                        ..Entry::reported(Tag::Write, report)
                     });
                     continue;
                 }

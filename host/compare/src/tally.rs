@@ -7,6 +7,8 @@ pub struct Tally {
     pub differ: u64,
     /// How often each number was expected, where a part counts them: what its calls came to.
     pub numbers: [u64; 10],
+    /// How many notices and writes were expected to drop no block, one, and more.
+    pub drops: [u64; 3],
 }
 
 impl Tally {
@@ -38,6 +40,10 @@ impl Tally {
     pub fn expects(&mut self, number: u64) {
         self.numbers[number as usize] += 1;
     }
+
+    pub fn expects_dropped(&mut self, dropped: u64) {
+        self.drops[dropped.min(2) as usize] += 1;
+    }
 }
 
 impl fmt::Display for Tally {
@@ -50,6 +56,9 @@ impl fmt::Display for Tally {
         )?;
         if self.numbers != [0; 10] {
             write!(f, ", by number from 0 on {:?}", self.numbers)?;
+        }
+        if self.drops != [0; 3] {
+            write!(f, ", dropping no block, one, more {:?}", self.drops)?;
         }
         Ok(())
     }

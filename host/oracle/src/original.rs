@@ -38,6 +38,10 @@ original! {
     pub fn slot(cache: &BlockCache, at: usize) -> (u64, Option<&Block>) {
         (cache.slots[at].tag, cache.slots[at].block.as_deref())
     }
+    /// How many slots have a block.
+    pub fn live(cache: &BlockCache) -> usize {
+        cache.slots.iter().filter(|slot| slot.block.is_some()).count()
+    }
     /// Whether a page, counted from address 0, is marked.
     pub fn marked(cache: &BlockCache, page: u64) -> bool {
         let word = cache.page_bitmap.get((page / 64) as usize);

@@ -5,7 +5,7 @@
 //! ```text
 //! cargo run -p unvriscol --example incident        # in host/; where VPOD names a checkout of capsulerun/vpod it shows the original first
 //! ```
-use unvriscol::{AluKind, BlockCache, Error, Op, alu, decode_block};
+use unvriscol::{AluKind, BlockCache, Error, Op, Report, alu, decode_block};
 
 const BASE: u64 = 0x8000_0000;
 const PAGES: u64 = 16;
@@ -123,14 +123,15 @@ fn ours() -> Result<(), Error> {
     let [a, b, c, d, e, f] = NEW;
     let word = u32::from_le_bytes([a, b, c, d]).into();
     let halfword = u16::from_le_bytes([e, f]).into();
-    let examined = blocks.guest_write(&mut memory, ROUTINE, 4, word)?
+    let Report { examined, dropped } = blocks.guest_write(&mut memory, ROUTINE, 4, word)?
         + blocks.guest_write(&mut memory, ROUTINE + 4, 2, halfword)?;
     step(
         3,
         &format!(
-            "the loader writes the new routine, {NEW:02x?}, by guest_write; {examined} slots are examined, and the page's blocks are gone"
+            "the loader writes the new routine, {NEW:02x?}, by guest_write; {examined} slots are examined, and {dropped} block is dropped: the write hit live code"
         ),
     );
+    assert_eq!((examined, dropped), (16_384, 1), "the old routine's block");
     let (how, a0) = fetch(&mut blocks, &memory)?;
     step(4, &format!("the core {how}; {}", said(a0)));
     assert_eq!(a0, 1, "what memory says");

@@ -13,8 +13,8 @@ fn main() -> Result<(), Error> {
     blocks.insert(base, block);
     assert!(blocks.lookup(base).is_some());
 
-    let examined = blocks.guest_write(&mut memory, base, 2, 0x0001)?; // the write, and the page's blocks are dropped
-    assert_eq!(examined, 16_384);
+    let report = blocks.guest_write(&mut memory, base, 2, 0x0001)?; // the write, and the page's blocks are dropped
+    assert_eq!((report.examined, report.dropped), (16_384, 1)); // slots, blocks
     assert!(blocks.lookup(base).is_none());
     Ok(())
 }

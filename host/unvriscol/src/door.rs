@@ -1,5 +1,5 @@
 //! The C functions themselves, as include/unvriscol.h declares them.
-use crate::Error;
+use crate::{Error, Report};
 
 /// A number of docs/FORMATS.md, "Answer numbers", and the value beside it, which is 0 at every number but 0.
 #[repr(C)]
@@ -14,6 +14,26 @@ impl Answer {
     #[inline]
     pub fn checked(self) -> Result<u64, Error> {
         Error::check(self.number).map(|()| self.value)
+    }
+}
+
+/// A number, and beside it what a notice or a guest write did: zeros at every number but 0.
+#[repr(C)]
+#[derive(Clone, Copy, Debug, PartialEq, Eq)]
+pub struct NumberedReport {
+    pub number: u64,
+    pub examined: u64,
+    pub dropped: u64,
+}
+
+impl NumberedReport {
+    /// What was done, or the error that the number stands for.
+    #[inline]
+    pub fn checked(self) -> Result<Report, Error> {
+        Error::check(self.number).map(|()| Report {
+            examined: self.examined,
+            dropped: self.dropped,
+        })
     }
 }
 
@@ -53,7 +73,7 @@ unsafe extern "C" {
     ) -> u64;
     /// # Safety
     /// As for [`uv_form`].
-    pub fn uv_notice(store: *mut u8, store_len: usize, address: u64) -> Answer;
+    pub fn uv_notice(store: *mut u8, store_len: usize, address: u64) -> NumberedReport;
     /// # Safety
     /// As for [`uv_form`].
     pub fn uv_flush(store: *mut u8, store_len: usize) -> u64;
@@ -70,5 +90,5 @@ unsafe extern "C" {
         address: u64,
         size: u64,
         value: u64,
-    ) -> Answer;
+    ) -> NumberedReport;
 }

@@ -31,7 +31,7 @@ mod store;
 pub use block::{Block, GuestMemory, MAX_BLOCK_OPS, Ops, decode_block, form, form_into};
 pub use error::Error;
 pub use op::{AluKind, BranchKind, DecodedInsn, LoadKind, Op, StoreKind};
-pub use store::{BlockCache, Store, store_len};
+pub use store::{BlockCache, Report, Store, store_len};
 
 /// Decodes a word: its op at offset 0, four bytes long. [`Error::NothingThere`] where the word has no op.
 pub fn decode_word(raw: u32) -> Result<DecodedInsn, Error> {

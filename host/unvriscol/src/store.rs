@@ -10,6 +10,27 @@ pub struct Store<B = Box<[u8]>> {
     bytes: B,
 }
 
+/// What a notice or a guest write did.
+#[derive(Clone, Copy, Debug, Default, PartialEq, Eq)]
+pub struct Report {
+    /// Slots that were looked at: all of them for each page that may have had blocks.
+    pub examined: u64,
+    /// Blocks that were dropped. Above 0: the write hit a page with blocks in the cache.
+    pub dropped: u64,
+}
+
+/// What both did.
+impl std::ops::Add for Report {
+    type Output = Self;
+
+    fn add(self, other: Self) -> Self {
+        Self {
+            examined: self.examined + other.examined,
+            dropped: self.dropped + other.dropped,
+        }
+    }
+}
+
 /// The original's name.
 pub type BlockCache = Store;
 
@@ -81,10 +102,10 @@ impl<B: AsRef<[u8]> + AsMut<[u8]>> Store<B> {
         })
     }
 
-    /// Drops the blocks of the address's page, to be told after a write there and before the next lookup. How many slots were examined: all, or none
-    /// where the page had no block.
+    /// Drops the blocks of the address's page, to be told after a write there and before the next lookup. Slots are examined only where the page has
+    /// had an insertion since it was last dropped.
     #[inline]
-    pub fn notice(&mut self, address: u64) -> u64 {
+    pub fn notice(&mut self, address: u64) -> Report {
         let bytes = self.bytes.as_mut();
         // SAFETY: as in `make`.
         unsafe { door::uv_notice(bytes.as_mut_ptr(), bytes.len(), address) }
@@ -92,8 +113,8 @@ impl<B: AsRef<[u8]> + AsMut<[u8]>> Store<B> {
             .expect(KEPT)
     }
 
-    /// Writes the low bytes of a value to the guest's memory, 1, 2, 4 or 8 of them, and drops the blocks of each page that it touches. How many
-    /// slots were examined. [`Error::Geometry`] where the memory is not as long as the store's, [`Error::WriteSize`], [`Error::OutsideMemory`].
+    /// Writes the low bytes of a value to the guest's memory, 1, 2, 4 or 8 of them, and drops the blocks of each page that it touches, which it reports
+    /// together. [`Error::Geometry`] where the memory is not as long as the store's, [`Error::WriteSize`], [`Error::OutsideMemory`].
     #[inline]
     pub fn guest_write(
         &mut self,
@@ -101,7 +122,7 @@ impl<B: AsRef<[u8]> + AsMut<[u8]>> Store<B> {
         address: u64,
         size: u64,
         value: u64,
-    ) -> Result<u64, Error> {
+    ) -> Result<Report, Error> {
         let bytes = self.bytes.as_mut();
         // SAFETY: as in `make`.
         unsafe {
@@ -205,12 +226,13 @@ mod tests {
         assert_eq!(store.code_generation(), 3);
         // c.li a0, 2 and ret
         let written = store.guest_write(&mut memory, BASE, 4, 0x8082_4509);
-        assert_eq!(written, Ok(4));
+        let dropped = |examined, dropped| Report { examined, dropped };
+        assert_eq!(written, Ok(dropped(4, 1)));
         assert_eq!(store.lookup(BASE), None);
         assert!(store.lookup(BASE + 4100).is_some());
         assert_eq!(step(&mut store, &mut (&memory[..], BASE), BASE), Some(4));
-        assert_eq!(store.notice(BASE + 4097), 4);
-        assert_eq!(store.notice(BASE + 4097), 0);
+        assert_eq!(store.notice(BASE + 4097), dropped(4, 1));
+        assert_eq!(store.notice(BASE + 4097), Report::default());
         store.flush_all();
         assert_eq!(store.find(BASE), Err(Error::Miss));
         assert_eq!(store.code_generation(), 4);

@@ -364,6 +364,53 @@ fn the_functions() {
     assert_eq!(functions(&read("host/unvriscol/src/door.rs")), proved);
 }
 
+/// What each function of a text in Rattle or Rust returns.
+fn results(text: &str) -> Vec<&str> {
+    text.split("fn uv_")
+        .skip(1)
+        .filter_map(|rest| words(rest.split_once("-> ")?.1).next())
+        .collect()
+}
+
+#[test]
+fn what_they_return() {
+    let rattle = read("crates/unvriscol/src/lib.rt");
+    let rust = read("host/unvriscol/src/door.rs");
+    let header = Header::new().text;
+    let in_c: Vec<&str> = functions(&rattle)
+        .iter()
+        .map(|name| {
+            let (before, _) = header.split_once(&format!(" uv_{name}(")).expect(name);
+            before.lines().last().expect(name)
+        })
+        .collect();
+    let names = [
+        ("u64", "u64", "uint64_t"),
+        ("Numbered", "Answer", "uv_answer"),
+        ("NumberedReport", "NumberedReport", "uv_report"),
+    ];
+    let all = results(&rattle).into_iter().zip(results(&rust)).zip(in_c);
+    for ((proved, here), c) in all {
+        assert!(names.contains(&(proved, here, c)), "{proved} {here} {c}");
+    }
+    for (proved, here, c) in &names[1..] {
+        let fields = |text: &str, name: &str| -> Vec<String> {
+            let (_, rest) = text
+                .split_once(&format!("pub struct {name} {{"))
+                .expect(name);
+            let (inside, _) = rest.split_once('}').expect(name);
+            words(inside).map(str::to_owned).collect()
+        };
+        let of_c = header.split_once(&format!("}} {c};")).expect(c).0;
+        let (_, of_c) = of_c.rsplit_once('{').expect(c);
+        let of_c: Vec<&str> = words(of_c).collect();
+        let expected = fields(&rattle, proved);
+        assert_eq!(fields(&rust, here), expected, "{here}");
+        let typed = of_c.chunks(2).flat_map(|pair| ["pub", pair[1], "u64"]);
+        assert_eq!(typed.collect::<Vec<_>>(), expected, "{c}");
+    }
+}
+
 #[test]
 fn the_version() {
     let header = Header::new();

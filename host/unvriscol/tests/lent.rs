@@ -1,7 +1,7 @@
 //! What include/unvriscol.h says of lent buffers: with length 0 a pointer may be NULL, and none has to be aligned.
 use std::ptr::{null, null_mut};
-use unvriscol::door::{self, Answer};
-use unvriscol::{Block, DecodedInsn, Store, decode_word_into, form_into, store_len};
+use unvriscol::door::{self, Answer, NumberedReport};
+use unvriscol::{Block, DecodedInsn, Report, Store, decode_word_into, form_into, store_len};
 
 const BASE: u64 = 0x8000_0000;
 
@@ -17,6 +17,11 @@ fn null_with_length_0() {
     let mut memory = memory();
     let mut store = Store::new(2, BASE, 2).unwrap().into_bytes();
     let refused = |number| Answer { number, value: 0 };
+    let nothing_done = |number| NumberedReport {
+        number,
+        examined: 0,
+        dropped: 0,
+    };
     let (none, lent) = (null(), null_mut());
     let (at, len) = (store.as_mut_ptr(), store.len());
     // SAFETY: a NULL stands beside a length of 0, and the others are pointer and length of one buffer, lent for the call.
@@ -30,14 +35,14 @@ fn null_with_length_0() {
         assert_eq!(door::uv_lookup(none, 0, BASE), refused(1));
         assert_eq!(door::uv_insert(lent, 0, BASE, none, 0), 1);
         assert_eq!(door::uv_insert(at, len, BASE, none, 0), 6);
-        assert_eq!(door::uv_notice(lent, 0, BASE), refused(1));
+        assert_eq!(door::uv_notice(lent, 0, BASE), nothing_done(1));
         assert_eq!(door::uv_flush(lent, 0), 1);
         assert_eq!(door::uv_generation(none, 0), refused(1));
         let (bytes, size) = (memory.as_mut_ptr(), memory.len());
         let unstored = door::uv_guest_write(lent, 0, bytes, size, BASE, 8, 0);
-        assert_eq!(unstored, refused(1));
+        assert_eq!(unstored, nothing_done(1));
         let nowhere = door::uv_guest_write(at, len, lent, 0, BASE, 8, 0);
-        assert_eq!(nowhere, refused(2));
+        assert_eq!(nowhere, nothing_done(2));
     }
 }
 
@@ -64,9 +69,14 @@ fn calls(shift: usize) -> [Vec<u8>; 4] {
     let mut store = Store::make(bytes, 2, BASE, 2).unwrap();
     store.put(BASE, record).unwrap();
     assert_eq!(store.find(BASE), Ok(&*record));
-    assert_eq!(store.guest_write(guest, BASE + 4095, 8, u64::MAX), Ok(4));
+    let one_dropped = Report {
+        examined: 4,
+        dropped: 1,
+    };
+    let crossing = store.guest_write(guest, BASE + 4095, 8, u64::MAX);
+    assert_eq!(crossing, Ok(one_dropped));
     store.put(BASE, record).unwrap();
-    assert_eq!(store.notice(BASE), 4);
+    assert_eq!(store.notice(BASE), one_dropped);
     store.flush_all();
     store.put(BASE, record).unwrap();
     [op, record, guest, store.into_bytes()].map(|bytes| bytes.to_vec())
