@@ -5,7 +5,7 @@ ghost use mathlib.Core.List.{_++_};
 ghost use Prim.Native.Nat.{_+_, _-_, _*_, _/_, _^_, _≤_, _<_};
 ghost use lib.ListN.{length, take, replicate};
 ghost use Rattle.bits.specs.Bytes.{part, patch};
-ghost use Rattle.store.specs.Layout.{headerLen, header, inBounds, front, storeLen, geometry, opened, Bounded, Fitting, holds, memoryPage, slotOf, placeAt, generationOf, bumped};
+ghost use Rattle.store.specs.Layout.{headerLen, header, inBounds, front, storeLen, geometry, stated, opened, Bounded, Fitting, holds, memoryPage, slotOf, placeAt, generationOf, bumped};
 ghost use Rattle.store.specs.Places.{pageBit, putBit, withBit, emptyPlace, inPage, emptied, vacated, eachPlace, placesIn, blank};
 use block::MAX_PAGES;
 use block::PAGE;
@@ -116,6 +116,17 @@ impl Geometry {
     }
 }
 
+// What the header's bytes say.
+fn stated(store: &[u8]) -> Geometry
+    requires { ⌜ headerLen ≤ length (now store) ⌝ }
+    ensures { λ r. ⌜ (r ≡ stated (now (store .entry))) × (r .e ≤ 255) ⌝ }
+{
+    let e = store[E_AT] as u64;
+    let base = bits::doubleword_at(store, BASE_AT);
+    let pages = bits::doubleword_at(store, PAGES_AT);
+    Geometry::new(e, base, pages)
+}
+
 // The header check: signature, bounds and length. Nothing else in the store is trusted.
 pub fn open(store: &[u8]) -> Opened
     ensures { λ r. ⌜ r ≡ opened (now (store .entry)) ⌝ }
@@ -123,14 +134,11 @@ pub fn open(store: &[u8]) -> Opened
     if store.len() < HEADER {
         return Opened::NotAStore;
     }
-    let e = store[E_AT] as u64;
-    let base = bits::doubleword_at(store, BASE_AT);
-    let pages = bits::doubleword_at(store, PAGES_AT);
-    if bits::doubleword_at(store, 0) != SIGNATURE + e * E_UNIT {
+    let g = stated(store);
+    if bits::doubleword_at(store, 0) != SIGNATURE + g.e * E_UNIT {
         return Opened::NotAStore;
     }
-    if in_bounds(e, base, pages) {
-        let g = Geometry::new(e, base, pages);
+    if in_bounds(g.e, g.base, g.pages) {
         if store.len() == g.store_len() {
             Opened::Sound(g)
         } else {

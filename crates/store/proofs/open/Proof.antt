@@ -2,11 +2,11 @@
 -- Assumes nothing.
 use native.Mathlib.Omega.{arith}
 use mathlib.Core.Path.{_≡_, sym, _∙_, ap}
-use lib.ListN.{getD}
-use Rattle.store.specs.Layout.{inBounds, storeLen, geometry, stated}
-use Rattle.store.specs.declared.Geometry.{Geometry}
+use mathlib.Core.Bool.{Bool, true}
+use Prim.Native.Nat.{_+_, _*_}
 use Rattle.bits.proofs.Tests.{true-false}
-use mathlib.Core.Bool.{Bool}
+use Rattle.store.specs.Layout.{inBounds, storeLen, stated}
+use Rattle.store.specs.declared.Geometry.{Geometry}
 use Rattle.store.specs.declared.Opened.the-variants.{Sound}
 use Rattle.store.proofs.Known.{bounds-are, opened-sound, opened-not, signature-is}
 use borrow.Author.Needs.{needs}
@@ -16,35 +16,33 @@ use Rattle.store.proofs.open.Tie as tie
 abbrev within : Geometry → Bool
 within g = inBounds (g .e) (g .base) (g .pages)
 
-told : (c : tie.After-doubleword-at2) → geometry (getD (c .before .before .before .before .before .args .store .now) 6 0) (c .before .doubleword-at .result) (c .doubleword-at2 .result) ≡ stated (c .before .before .before .before .before .args .store .now)
-told c = rw (c .before .doubleword-at .ensures, c .doubleword-at2 .ensures)
+bounded : (c : tie.Then3) → within (stated (c .before .before .before .before .before .before .before .before .args .store .now)) ≡ true
+bounded c = ap within (sym (c .before .before .before .before .before .stated .ensures .0)) ∙ sym (c .before .in-bounds .ensures) ∙ c .if3 .taken
 
 pub open-spec : {M : Type 1} → statement M
 open-spec =
     tie.close
     (tie.spec
     (λ c. sym (opened-not _ (λ h. omega (arith, h .long))))
-    (λ c. search needs) (λ c. omega (arith, c .shared-slice-known2 .given 6)) (λ c κs. search needs) (λ c κs. search needs) (λ c κs. search needs)
-    (λ c. omega (arith, c .before .before .before .shared-slice-known2 .given 6)) (λ c. omega (arith, c .before .before .before .shared-slice-known2 .given 6))
-    (λ c. sym (opened-not _ (λ h. omega (arith, c .before .before .before .before .shared-slice-known2 .given 6, h .signed ∙ signature-is _))))
     (λ c κs. search needs) (λ c κs. search needs)
-    (λ c κs. rw (c .new .ensures) (bounds-are _ _ _ (sym (c .before .before .in-bounds .ensures) ∙ c .before .if3 .taken)))
+    (λ c. omega (arith, c .before .before .stated .ensures .1)) (λ c. omega (arith, c .before .before .stated .ensures .1))
     (λ c.
-    let test = c .before .before .before in
-    let read = test .before .before .before .before in
-    let s = read .before .before .before .before .before .args .store .now in
-    let same = c .before .before .new .ensures ∙ told read in
+    let e = ap (λ (g : Geometry). g .e) (c .before .before .before .stated .ensures .0) in
+    sym (opened-not _ (λ h. omega (arith, e, c .before .before .doubleword-at .ensures, h .signed ∙ signature-is _))))
+    (λ c κs. search needs)
+    (λ c κs. rw (c .before .before .before .before .before .stated .ensures .0) (bounds-are _ _ _ (bounded c)))
+    (λ c.
+    let test = c .before .before in
+    let word = test .before .before .before .before in
+    let same = word .before .stated .ensures .0 in
     ap Sound same
-    ∙ sym (opened-sound s (record {
+    ∙ sym (opened-sound (word .before .before .before .before .args .store .now) (record {
       long = omega arith;
-      signed = sym (test .before .before .before .doubleword-at3 .ensures) ∙ test .before .before .if2 .left ∙ sym (signature-is _);
-      bounded = ap within (sym (told read)) ∙ sym (test .before .in-bounds .ensures) ∙ test .if3 .taken;
+      signed = sym (word .doubleword-at .ensures) ∙ test .before .before .if2 .left ∙ ap (λ (g : Geometry). 0x1_0043_4256 + g .e * 0x1_0000_0000_0000) same ∙ sym (signature-is _);
+      bounded = bounded test;
       exact = omega (arith, c .before .store-len .ensures ∙ ap storeLen same);
     })))
     (λ c.
-    let test = c .before .before .before in
-    let same = c .before .before .new .ensures ∙ told (test .before .before .before .before) in
+    let same = c .before .before .before .before .before .before .before .stated .ensures .0 in
     sym (opened-not _ (λ h. omega (arith, h .exact ∙ ap storeLen (sym same) ∙ sym (c .before .store-len .ensures)))))
-    (λ c.
-    let read = c .before .before .before .before in
-    sym (opened-not _ (λ h. true-false (c .before .in-bounds .ensures ∙ ap within (told read) ∙ h .bounded) (c .if3 .left)))))
+    (λ c. sym (opened-not _ (λ h. true-false (c .before .in-bounds .ensures ∙ ap within (c .before .before .before .before .before .stated .ensures .0) ∙ h .bounded) (c .if3 .left)))))
