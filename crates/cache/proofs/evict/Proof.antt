@@ -14,11 +14,12 @@ returned c =
     let walk = c .before .before in
     let front = walk .before .before in
     let set = front .before .before .before .before in
-    let start = set .before .before .before .before in
-    (walk .empty-places .ensures .0
-    ∙ rw (walk .before .slots .ensures .0, front .front .ensures .0, set .set-bit .ensures, set .before .memory-page .ensures .0)
-    (dropped-cleared _ _ (start .pre .0) _ (start .pre .1)),
-    walk .empty-places .ensures .1 ∙ rw (walk .before .slots .ensures .0, front .front .ensures .0, set .set-bit .ensures, set .before .memory-page .ensures .0))
+    let start = set .before .before .before .before in (
+      walk .empty-places .ensures .0
+          ∙ rw (walk .before .slots .ensures .0, front .front .ensures .0, set .set-bit .ensures, set .before .memory-page .ensures .0)
+          (dropped-cleared _ _ (start .pre .0) _ (start .pre .1)),
+      walk .empty-places .ensures .1 ∙ rw (walk .before .slots .ensures .0, front .front .ensures .0, set .set-bit .ensures, set .before .memory-page .ensures .0),
+    )
 
 pub evict-spec : {M : Type 1} → statement M
 evict-spec =

@@ -35,8 +35,9 @@ notice-pages-spec =
     let start = one .before .before .before in
     let a = start .args in
     let apart = two .before .before .if1 .left in
-    rw (ne-eqb (a .address / 4096) (a .last / 4096) apart)
-    (c .sum .ensures
-    ∙ ap₂ summed (one .notice-in .ensures .0)
-    (two .notice-in2 .ensures .0 ∙ ap (λ (s : List ℕ). reportIn (a .g) s (a .last)) (one .notice-in .ensures .1) ∙ report-apart (a .g) (a .store .now) (start .pre) (a .address) (a .last) apart),
-    two .notice-in2 .ensures .1 ∙ ap (λ (s : List ℕ). noticedIn (a .g) s (a .last)) (one .notice-in .ensures .1))))
+    rw (ne-eqb (a .address / 4096) (a .last / 4096) apart) (
+      c .sum .ensures
+          ∙ ap₂ summed (one .notice-in .ensures .0)
+          (two .notice-in2 .ensures .0 ∙ ap (λ (s : List ℕ). reportIn (a .g) s (a .last)) (one .notice-in .ensures .1) ∙ report-apart (a .g) (a .store .now) (start .pre) (a .address) (a .last) apart),
+      two .notice-in2 .ensures .1 ∙ ap (λ (s : List ℕ). noticedIn (a .g) s (a .last)) (one .notice-in .ensures .1),
+    )))
