@@ -207,10 +207,8 @@ pub fn notice_in(store: &mut [u8], g: Geometry, address: u64) -> Report
 {
     if watched(store, g, address) {
         let dropped = evict(store, g, address);
-        Report {
-            examined: g.slots() as u64,
-            dropped,
-        }
+        let examined = g.slots() as u64;
+        Report { examined, dropped }
     } else {
         Report::nothing()
     }
