@@ -95,19 +95,16 @@ pub walking-fits : (make : List ℕ → List ℕ) (first z n : ℕ) (s store : L
 walking-fits make first z n s store i at w h f = let next = after z i n h in omega (arith, w .1, w .3)
 
 -- a loop that also counts the places in a page: after one more turn
-module _ (page first z n : ℕ) (s store : List ℕ) (i at dropped one : ℕ) (w : Walking (emptied page) first z n s store i at) (lt : i < n) where
-  pub counting : 8 ≤ z → first + z * n ≤ length s → dropped ≡ placesIn page first z i s → one ≡ cond (inPage page (part store at z)) 1 0 → (dropped + one ≡ placesIn page first z (i + 1) s) × (dropped + one ≤ i + 1)
+module _ (page first z n : ℕ) (s store : List ℕ) (i at dropped : ℕ) (w : Walking (emptied page) first z n s store i at) (lt : i < n) where
+  pub counting : 8 ≤ z → first + z * n ≤ length s → dropped ≡ placesIn page first z i s → dropped + cond (inPage page (part store at z)) 1 0 ≡ placesIn page first z (i + 1) s
   unfolding count
-  counting room fits e o = rw add-one (sum, rw sum (count-le (suc i) (λ k. inPage page (part s (first + z * k) z))))
+  counting room fits e = rw (add-one i) (ap₂ _+_ e (ap (λ (p : List ℕ). cond (inPage page p) 1 0) here))
     where
       next : first + z * i + z ≤ length s
       next = omega (arith, after z i n lt)
 
       here : part store at z ≡ part s (first + z * i) z
       here = ap₂ (λ (t : List ℕ) (k : ℕ). part t k z) (w .2) (w .1) ∙ part-each (emptied page) first z (λ p l. length-emptied page p (rw l room) ∙ l) i i s (omega arith) next
-
-      sum : dropped + one ≡ placesIn page first z i s + cond (inPage page (part s (first + z * i) z)) 1 0
-      sum = ap₂ _+_ e (o ∙ ap (λ (p : List ℕ). cond (inPage page p) 1 0) here)
 
 pub length-copies : (n : ℕ) (p : List ℕ) (z : ℕ) → length p ≡ z → length (copies n p) ≡ z * n
 unfolding copies

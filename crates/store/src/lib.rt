@@ -207,24 +207,24 @@ fn empty(place: &mut [u8])
     bits::put_doubleword(place, 0, Slot::EMPTY);
 }
 
-// 1 for a place that it emptied, else 0.
-fn empty_if(place: &mut [u8], page: u64) -> u64
-    requires { ⌜ 8 ≤ length (now place) ⌝ }
-    ensures { λ r. ⌜ (r ≡ cond (inPage page (now (place .entry))) 1 0) × (now (place .exit) ≡ emptied page (now (place .entry))) ⌝ }
+// The places dropped so far, and this one if it was emptied. Passed on so, the number costs a place that stays no instruction.
+fn empty_if(place: &mut [u8], page: u64, dropped: u64) -> u64
+    requires { ⌜ (8 ≤ length (now place)) × (dropped + 1 < 2 ^ 64) ⌝ }
+    ensures { λ r. ⌜ (r ≡ dropped + cond (inPage page (now (place .entry))) 1 0) × (now (place .exit) ≡ emptied page (now (place .entry))) ⌝ }
 {
     if bits::doubleword_at(place, 0) / PAGE == page {
         empty(place);
-        1
+        dropped + 1
     } else {
-        0
+        dropped
     }
 }
 
-fn empty_at(store: &mut [u8], at: usize, stride: usize, page: u64) -> u64
-    requires { ⌜ (8 ≤ stride) × (at + stride ≤ length (now store)) ⌝ }
-    ensures { λ r. ⌜ (r ≡ cond (inPage page (part (now (store .entry)) at stride)) 1 0) × (now (store .exit) ≡ patch (now (store .entry)) at (emptied page (part (now (store .entry)) at stride))) ⌝ }
+fn empty_at(store: &mut [u8], at: usize, stride: usize, page: u64, dropped: u64) -> u64
+    requires { ⌜ (8 ≤ stride) × (at + stride ≤ length (now store)) × (dropped + 1 < 2 ^ 64) ⌝ }
+    ensures { λ r. ⌜ (r ≡ dropped + cond (inPage page (part (now (store .entry)) at stride)) 1 0) × (now (store .exit) ≡ patch (now (store .entry)) at (emptied page (part (now (store .entry)) at stride))) ⌝ }
 {
-    empty_if(&mut store[at..at + stride], page)
+    empty_if(&mut store[at..at + stride], page, dropped)
 }
 
 // Empties those of n places of `stride` bytes from `first` on that have an address in the page, which is counted from address 0, and says how many.
@@ -236,7 +236,7 @@ pub fn empty_places(store: &mut [u8], first: usize, stride: usize, n: usize, pag
     let mut at = first;
     let mut dropped = 0;
     while i < n {
-        dropped += empty_at(store, at, stride, page);
+        dropped = empty_at(store, at, stride, page, dropped);
         at += stride;
         i += 1;
     }

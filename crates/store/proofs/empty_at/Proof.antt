@@ -2,7 +2,7 @@
 -- Assumes nothing.
 use mathlib.Core.Path.{_∙_, ap}
 use mathlib.Core.Bool.{cond}
-use Prim.Native.Nat.{ℕ}
+use Prim.Native.Nat.{ℕ, _+_}
 use native.Mathlib.Nat.{add-sub-cancel-left}
 use Rattle.bits.specs.Bytes.{part}
 use Rattle.bits.proofs.Bytes.{put-back, length-part}
@@ -20,7 +20,7 @@ returned c =
     let lent = part (a .store .now) (a .at) (a .stride) in
     let long = length-part (a .store .now) (a .at) (a .stride) (pre .1) in
     let same = add-sub-cancel-left (a .at) (a .stride) in (
-      c .before .before .empty-if .ensures .0 ∙ ap (λ (n : ℕ). cond {A = ℕ} (inPage (a .page) (part (a .store .now) (a .at) n)) 1 0) same,
+      c .before .before .empty-if .ensures .0 ∙ ap (λ (n : ℕ). a .dropped + cond {A = ℕ} (inPage (a .page) (part (a .store .now) (a .at) n)) 1 0) same,
       put-back (a .store .now) (a .at) (a .stride) _ (emptied (a .page) lent)
           (c .before .before .empty-if .ensures .1 ∙ ap (λ (n : ℕ). emptied (a .page) (part (a .store .now) (a .at) n)) same)
           (length-emptied (a .page) lent (rw long (pre .0)) ∙ long),
