@@ -162,7 +162,7 @@ pub fn page_bit(store: &[u8], page: u64) -> bool
     ensures { λ r. ⌜ r ≡ pageBit (now (store .entry)) page ⌝ }
 {
     let i = (HEADER as u64 + page / 8) as usize;
-    store[i] / mask(page % 8) % 2 == 1
+    (bits::as_u64(store[i]) >> (page % 8)) % 2 == 1
 }
 
 fn put_bit(byte: u8, k: u64, on: bool) -> u8

@@ -1,4 +1,4 @@
--- `store::page_bit` meets its contract: the quotient by the mask.
+-- `store::page_bit` meets its contract: the byte, shifted down to the bit.
 -- Assumes nothing.
 use Rattle.store.specs.Places.{pageBit}
 use borrow.Author.Needs.{needs}
@@ -7,7 +7,7 @@ use Rattle.store.proofs.page_bit.Tie as tie
 
 returned : tie.Need-returns
 unfolding pageBit
-returned c = rw (c .mask .ensures .0)
+returned c = rw (c .as-u64 .ensures)
 
 pub page-bit-spec : {M : Type 1} → statement M
 page-bit-spec =
