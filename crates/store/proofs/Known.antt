@@ -1,15 +1,16 @@
 -- What the header check tells of a store, and each of its tests in a record.
 -- Assumes nothing.
-use mathlib.Core.Path.{_≡_, refl, subst, _∙_}
+use mathlib.Core.Path.{_≡_, refl, sym, subst, _∙_}
 use mathlib.Core.Bool.{Bool, true, false, cond}
 use mathlib.Core.List.{List}
 use Prim.Native.Nat.{ℕ, suc, _+_, _*_, _/_, _%_, _^_, _≤_, _<_}
 use native.Mathlib.Omega.{arith}
 use native.Mathlib.Nat.{one-mul, mod-lt, mul-suc, mul-le-mul, mul-le-mul-left}
-use lib.Dec.{eqb, leb}
+use lib.Dec.{eqb, leb, ltb}
 use lib.ListN.{length, getD}
 use lib.Pow.{pow-pos, pow-mono, shl-exact}
-use borrow.Author.Tests.{leb-true, eqb-true, le-leb, eq-eqb}
+use native.Mathlib.Decide.{decLt}
+use borrow.Author.Tests.{leb-true, eqb-true, le-leb, lt-ltb, le-ltb, eq-eqb}
 use Rattle.bits.specs.Bytes.{doublewordAt}
 use Rattle.block.proofs.Places as block
 use Rattle.bits.proofs.Tests.{and-both, not-true}
@@ -113,6 +114,14 @@ holds-are g a h = block.held (4096 * g .pages) (g .base) a h
 pub are-held : (g : Geometry) (a : ℕ) → g .base ≤ a → a < g .base + 4096 * g .pages → holds g a ≡ true
 unfolding holds
 are-held g a l u = rw (le-leb (g .base) a l) (le-leb (a + 1) (g .base + 4096 * g .pages) (omega arith))
+
+-- a difference that wraps below the base is no length of a memory
+pub held-by : (g : Geometry) (a d : ℕ) → Bounded g → d < 2 ^ 64 → (d + g .base) % 2 ^ 64 ≡ a → ltb d (4096 * g .pages) ≡ holds g a
+held-by g a d b small e = go (decLt d (4096 * g .pages))
+  where
+    go : Dec (d < 4096 * g .pages) → ltb d (4096 * g .pages) ≡ holds g a
+    go (yes h) = lt-ltb d (4096 * g .pages) h ∙ sym (are-held g a (omega (arith, b .below)) (omega (arith, b .below)))
+    go (no h) = le-ltb d (4096 * g .pages) (omega arith) ∙ sym (not-true (holds g a) (λ t. h (omega (arith, b .below, holds-are g a t))))
 
 pub page-lt : (g : Geometry) (a : ℕ) → holds g a ≡ true → memoryPage g a < g .pages
 page-lt g a h = omega (arith, holds-are g a h)

@@ -90,12 +90,12 @@ impl Geometry {
         self.front() + self.stride * self.slots()
     }
 
-    // Whether the address lies in the store's memory.
+    // Whether the address lies in the store's memory: below the base the difference wraps, and is no length of a memory.
     pub fn holds(self, address: u64) -> bool
         requires { ⌜ Bounded self ⌝ }
         ensures { λ r. ⌜ r ≡ holds self address ⌝ }
     {
-        block::in_memory(PAGE * self.pages, self.base, address)
+        std::num::wrapping_sub_u64(address, self.base) < PAGE * self.pages
     }
 
     // The page of an address in memory, counted from the base.
