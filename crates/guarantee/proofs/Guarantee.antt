@@ -14,8 +14,9 @@ use Rattle.store.specs.Layout.{slotOf}
 use Rattle.store.specs.Places.{recordIn}
 use Rattle.store.specs.declared.Geometry.{Geometry}
 use Rattle.store.specs.declared.Opened.the-variants.{Sound}
-use Rattle.cache.specs.Answers.{lookupNumber}
+use Rattle.cache.specs.Answers.{lookupNumber, nothingDone, reported}
 use Rattle.cache.specs.Calls.{makeJudged, makeBy, makeCall, lookupCall, insertJudged, insertBy, insertCall, noticeCall, flushCall, generationCall}
+use Rattle.cache.specs.declared.ReportAnswer.{ReportAnswer}
 use Rattle.cache.specs.declared.ReportAnswer.the-variants.{Reported}
 use Rattle.cache.specs.declared.Judged.{Judged}
 use Rattle.cache.specs.declared.Judged.the-variants.{Accepted, Rejected}
@@ -26,7 +27,7 @@ use Rattle.guarantee.specs.Calls.{write, Call, Lent, run, lookedUp}
 use Rattle.guarantee.specs.Past.{Past, since, pageOf, events, pastOf}
 use Rattle.guarantee.specs.Stands.{Possible, Stands, Follows}
 use Rattle.guarantee.specs.Answers.{lookupAnswered, partFor, report, reports, answered, writeAnswered}
-use Rattle.guarantee.proofs.Simulation.{fits-accepted, notice-reports, write-reports}
+use Rattle.guarantee.proofs.Simulation.{fits-accepted, unmarked-drops, notice-reports, write-reports}
 use Rattle.guarantee.proofs.Lookup.{lookup-is, lookup-returns}
 use Rattle.guarantee.proofs.Run.{write-own, kept}
 
@@ -91,11 +92,13 @@ module _ (p : Past) (l : Lent) (start : Follows p (l .store)) (calls : List Call
   notice-answers a = rw (stands .sound) (ap Reported (notice-reports g h (run calls l .store) stands a))
 
   -- in one sentence (docs/FORMATS.md, Slots examined): every slot exactly when the page had an accepted insertion, and since came no notice or write in it, and no flush
-  pub examines-all : (a : ℕ) → Marked (slotOf g) pageOf h (pageOf a) → noticeCall (run calls l .store) a .0 ≡ Reported (record { examined = 2 ^ g .e })
-  examines-all a m = notice-answers a ∙ rw (is-marked (slotOf g) pageOf h (pageOf a) m)
+  pub examines-all : (a : ℕ) → Marked (slotOf g) pageOf h (pageOf a) → reported (noticeCall (run calls l .store) a .0) .examined ≡ 2 ^ g .e
+  examines-all a m = ap (λ (r : ReportAnswer). reported r .examined) (notice-answers a) ∙ rw (is-marked (slotOf g) pageOf h (pageOf a) m)
 
-  pub examines-none : (a : ℕ) → (Marked (slotOf g) pageOf h (pageOf a) → ⊥) → noticeCall (run calls l .store) a .0 ≡ Reported (record { examined = 0 })
-  examines-none a n = notice-answers a ∙ rw (not-true (marked (slotOf g) pageOf h (pageOf a)) (λ e. n (marked-is (slotOf g) pageOf h (pageOf a) e)))
+  pub examines-none : (a : ℕ) → (Marked (slotOf g) pageOf h (pageOf a) → ⊥) → noticeCall (run calls l .store) a .0 ≡ Reported nothingDone
+  examines-none a n =
+      let m = not-true (marked (slotOf g) pageOf h (pageOf a)) (λ e. n (marked-is (slotOf g) pageOf h (pageOf a) e)) in
+      notice-answers a ∙ rw (m, unmarked-drops g h (run calls l .store) stands a m)
 
   pub flush-answers : flushCall (run calls l .store) .0 ≡ Done
   flush-answers = rw (stands .sound)

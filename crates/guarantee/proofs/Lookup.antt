@@ -11,9 +11,9 @@ use borrow.Author.Tests.{eqb-true, ne-eqb}
 use Rattle.bits.specs.Bytes.{doublewordAt}
 use Rattle.bits.proofs.Bytes.{doubleword-part}
 use Rattle.store.specs.Layout.{holds, slotOf, Bounded}
-use Rattle.store.specs.Places.{emptyPlace}
 use Rattle.store.specs.declared.Geometry.{Geometry}
 use Rattle.store.proofs.Known.{holds-are, slot-lt}
+use Rattle.store.proofs.Places.{empty-address}
 use Rattle.cache.specs.Calls.{placeOf, lookupCall}
 use Rattle.cache.specs.Answers.{lookupPart}
 use Rattle.cache.specs.declared.LookupAnswer.{LookupAnswer}
@@ -26,10 +26,6 @@ use Rattle.guarantee.specs.Past.{pageOf}
 use Rattle.guarantee.specs.Stands.{Stands}
 use Rattle.guarantee.specs.Answers.{lookupAnswered, partFor}
 use Rattle.guarantee.proofs.Simulation.{bytesOf, Fitted, fitted, place-is}
-
-empty-address : (z : ℕ) → doublewordAt (emptyPlace z) 0 ≡ 0xFFFF_FFFF_FFFF_FFFF
-unfolding emptyPlace
-empty-address z = refl
 
 module _ (g : Geometry) (h : List Event) (s : List ℕ) (y : Stands g h s) (a : ℕ) where
   bounds : Bounded g

@@ -42,19 +42,19 @@ length-insert s a rec = go (insertJudged (opened s) a rec) refl
     go (Accepted g) e = accepted g (insert-taken s a rec g e)
     go (Rejected why) e = refl
 
-fitting-noticed : (g : Geometry) (s : List ℕ) (a : ℕ) → Fitting g s → Fitting g (noticedIn g s a .1)
+fitting-noticed : (g : Geometry) (s : List ℕ) (a : ℕ) → Fitting g s → Fitting g (noticedIn g s a)
 fitting-noticed g s a f = go (watched g s a) refl
   where
-    go : (t : Bool) → watched g s a ≡ t → Fitting g (noticedIn g s a .1)
+    go : (t : Bool) → watched g s a ≡ t → Fitting g (noticedIn g s a)
     go true e = rw e (fitting-evicted g s f a (and-both (holds g a) _ e .0))
     go false e = rw e f
 
-fitting-touched : (g : Geometry) (s : List ℕ) (a b : ℕ) → Fitting g s → Fitting g (noticedPages g s a b .1)
+fitting-touched : (g : Geometry) (s : List ℕ) (a b : ℕ) → Fitting g s → Fitting g (noticedPages g s a b)
 fitting-touched g s a b f = go (eqb (pageOf a) (pageOf b)) refl
   where
-    go : (t : Bool) → eqb (pageOf a) (pageOf b) ≡ t → Fitting g (noticedPages g s a b .1)
+    go : (t : Bool) → eqb (pageOf a) (pageOf b) ≡ t → Fitting g (noticedPages g s a b)
     go true e = rw e (fitting-noticed g s a f)
-    go false e = rw e (fitting-noticed g (noticedIn g s a .1) b (fitting-noticed g s a f))
+    go false e = rw e (fitting-noticed g (noticedIn g s a) b (fitting-noticed g s a f))
 
 length-notice : (s : List ℕ) (a : ℕ) → length (noticeCall s a .1) ≡ length s
 length-notice s a = go (opened s) refl

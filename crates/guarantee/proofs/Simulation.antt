@@ -9,31 +9,34 @@ use native.Mathlib.Omega.{arith}
 use native.Mathlib.Nat.{mod-add-mod}
 use lib.Dec.{eqb}
 use lib.ListN.{length, take}
-use borrow.Author.Tests.{eq-eqb, ne-eqb}
+use borrow.Author.Tests.{eqb-false, eq-eqb, ne-eqb}
 use Rattle.bits.specs.Bytes.{doublewordAt}
+use Rattle.bits.proofs.Count.{count-same}
 use Rattle.bits.proofs.Every.{decide}
 use Rattle.bits.proofs.Tests.{and-both, true-false}
 use Rattle.store.specs.Layout.{header, inBounds, geometry, opened, holds, slotOf, generationOf, Bounded, Fitting}
-use Rattle.store.specs.Places.{placeIn, pageBit, emptyPlace, placeFor, recordIn, emptied, blank}
+use Rattle.store.specs.Places.{placeIn, pageBit, emptyPlace, placeFor, recordIn, inPage, emptied, blank}
 use Rattle.store.specs.declared.Geometry.{Geometry}
 use Rattle.store.specs.declared.Opened.{Opened}
 use Rattle.store.specs.declared.Opened.the-variants.{Sound}
 use Rattle.store.proofs.Known.{holds-are, are-held, page-lt, slot-lt}
 use Rattle.store.proofs.Held.{place-long, place-named, record-back}
-use Rattle.store.proofs.Places.{length-empty}
+use Rattle.store.proofs.Places.{length-empty, empty-address}
 use Rattle.store.proofs.View.{opened-flushed, generation-flushed, bits-flushed, place-flushed, opened-made, generation-made, bits-made, place-made}
-use Rattle.cache.specs.Calls.{insertJudged, watched, evicted, noticedIn, summed, insertedIn}
+use Rattle.cache.specs.Answers.{nothingDone}
+use Rattle.cache.specs.Calls.{insertJudged, watched, evicted, noticedIn, droppedIn, reportIn, summed, insertedIn}
 use Rattle.cache.specs.declared.Judged.the-variants.{Accepted}
 use Rattle.cache.specs.declared.Report.{Report}
 use Rattle.cache.proofs.Checks.{opened-fits, insert-taken}
-use Rattle.cache.proofs.View.{opened-evicted, generation-evicted, bits-evicted, place-evicted, opened-inserted, generation-inserted, bits-inserted, place-inserted}
-use Rattle.write.specs.Write.{noticedPages}
+use Rattle.cache.proofs.View.{opened-evicted, generation-evicted, bits-evicted, place-evicted, opened-inserted, generation-inserted, bits-inserted, place-inserted, report-apart}
+use Rattle.write.specs.Write.{noticedPages, reportPages}
 use Rattle.history.specs.History.{Event, inserted, touched, flushed, Every, none-left, and-then, insertions, shown, marked}
 use Rattle.history.proofs.Sentences.{no-some}
 use Rattle.history.proofs.Places.{Place, empty, full, swept, places, Was, was, full-shown, shown-full, empty-none}
+use Rattle.history.proofs.Dropped.{placeInPage, places-hits, unmarked-none}
 use Rattle.guarantee.specs.Past.{pageOf, crossed}
 use Rattle.guarantee.specs.Stands.{Possible, Stands}
-use Rattle.guarantee.specs.Answers.{report, reports}
+use Rattle.guarantee.specs.Answers.{live, report, reports}
 
 -- an accepted insertion: its address lies in memory, and what the place holds for the record is as long as a place, names the address and shows the record
 pub record Fits (g : Geometry) (a : ℕ) (r : List ℕ) : Type 0 where
@@ -84,6 +87,19 @@ same-test g a q b h =
     decide ((a - g .base) / 4096) q
     (λ e. eq-eqb ((a - g .base) / 4096) q e ∙ sym (eq-eqb (pageOf a) (pageOf (g .base) + q) (page-shift g a b h ∙ ap (λ (k : ℕ). pageOf (g .base) + k) e)))
     (λ n. ne-eqb ((a - g .base) / 4096) q n ∙ sym (ne-eqb (pageOf a) (pageOf (g .base) + q) (λ e. n (omega (arith, page-shift g a b h)))))
+
+pub same-report : {p q : Report} → p .examined ≡ q .examined → p .dropped ≡ q .dropped → p ≡ q
+same-report e d = ap₂ (λ (n k : ℕ). record { examined = n; dropped = k }) e d
+
+-- the addresses of a page
+abbrev pub firstOf : ℕ → ℕ
+firstOf p = 4096 * p
+
+pub in-page : (p k : ℕ) → k < 4096 → pageOf (firstOf p + k) ≡ p
+in-page p k l = omega arith
+
+pub its-page : (a : ℕ) → (firstOf (pageOf a) ≤ a) × (a < firstOf (pageOf a) + 4096)
+its-page a = (omega arith, omega arith)
 
 -- a scan of a place's bytes is a scan of the place
 abbrev pub Fitted : Geometry → Place → Type 0
@@ -194,49 +210,66 @@ module _ (g : Geometry) (h : List Event) (s : List ℕ) (y : Stands g h s) where
         bit : (q : ℕ) → marked (slotOf g) pageOf h q ≡ (not (eqb (pageOf a) q) && marked (slotOf g) pageOf h q)
         bit q = decide (pageOf a) q (λ e. rw (eq-eqb (pageOf a) q e) (ap (marked (slotOf g) pageOf h) (sym e) ∙ m)) (λ n. rw (ne-eqb (pageOf a) q n))
 
-    pub notice-reports : noticedIn g s a .0 ≡ report g h (pageOf a)
+    -- the places that a store counts for a page are the addresses of the page that the past shows
+    counted : holds g a ≡ true → droppedIn g s a ≡ live g h (pageOf a)
+    counted o =
+        count-same (2 ^ g .e) _ _ (λ i c. ap (inPage (pageOf a)) (place-is g h s y i c) ∙ there (places (slotOf g) pageOf h i) (fitted i))
+        ∙ places-hits (slotOf g) pageOf (2 ^ g .e) (slot-lt g) firstOf 4096 in-page its-page h (pageOf a)
+      where
+        there : (k : Place) → Fitted g k → inPage (pageOf a) (bytesOf g k) ≡ placeInPage (slotOf g) pageOf (pageOf a) k
+        there empty w = rw (empty-address (g .stride)) (ne-eqb (0xFFFF_FFFF_FFFF_FFFF / 4096) (pageOf a) (λ e. omega (arith, holds-are g a o, fits .bounds .below)))
+        there (full b r) w = rw (w .named)
+
+    pub unmarked-drops : marked (slotOf g) pageOf h (pageOf a) ≡ false → live g h (pageOf a) ≡ 0
+    unmarked-drops = unmarked-none (slotOf g) pageOf (2 ^ g .e) (slot-lt g) firstOf 4096 in-page its-page h (pageOf a)
+
+    pub notice-reports : reportIn g s a ≡ report g h (pageOf a)
     notice-reports = go (watched g s a) refl
       where
-        go : (t : Bool) → watched g s a ≡ t → noticedIn g s a .0 ≡ report g h (pageOf a)
-        go true e = rw (e, sym (watched-marked a) ∙ e)
-        go false e = rw (e, sym (watched-marked a) ∙ e)
+        go : (t : Bool) → watched g s a ≡ t → reportIn g s a ≡ report g h (pageOf a)
+        go true e = rw (e, sym (watched-marked a) ∙ e) (same-report refl (counted (and-both (holds g a) _ e .0)))
+        go false e = let m = sym (watched-marked a) ∙ e in rw (e, m) (same-report refl (sym (unmarked-drops m)))
 
-    pub notice-keeps : Stands g (touched (pageOf a) ∷ h) (noticedIn g s a .1)
+    pub notice-keeps : Stands g (touched (pageOf a) ∷ h) (noticedIn g s a)
     notice-keeps = go (watched g s a) refl
       where
-        go : (t : Bool) → watched g s a ≡ t → Stands g (touched (pageOf a) ∷ h) (noticedIn g s a .1)
+        go : (t : Bool) → watched g s a ≡ t → Stands g (touched (pageOf a) ∷ h) (noticedIn g s a)
         go true e = rw e (swept-places (sym (watched-marked a) ∙ e) (and-both (holds g a) _ e .0))
         go false e = rw e (unwatched (sym (watched-marked a) ∙ e))
 
 -- the first report of a sum
-pub alone : (r : Report) → summed (record { examined = 0 }) r ≡ r
-alone r = ap (λ (n : ℕ). record { examined = n }) (sum (r .examined))
+pub alone : (r : Report) → summed nothingDone r ≡ r
+alone r = same-report (sum (r .examined)) (sum (r .dropped))
   where
     sum : (n : ℕ) → 0 + n ≡ n
     sum n = omega arith
 
 -- the notices of a write from a to b
 module _ (g : Geometry) (h : List Event) (s : List ℕ) (y : Stands g h s) (a b : ℕ) where
-  second : Stands g (touched (pageOf a) ∷ h) (noticedIn g s a .1)
+  second : Stands g (touched (pageOf a) ∷ h) (noticedIn g s a)
   second = notice-keeps g h s y a
 
-  pub write-reports : noticedPages g s a b .0 ≡ reports g h (crossed a b)
+  pub write-reports : reportPages g s a b ≡ reports g h (crossed a b)
   unfolding reports
   write-reports = go (eqb (pageOf a) (pageOf b)) refl
     where
-      first : noticedIn g s a .0 ≡ summed (record { examined = 0 }) (report g h (pageOf a))
+      first : reportIn g s a ≡ summed nothingDone (report g h (pageOf a))
       first = notice-reports g h s y a ∙ sym (alone (report g h (pageOf a)))
 
-      go : (t : Bool) → eqb (pageOf a) (pageOf b) ≡ t → noticedPages g s a b .0 ≡ reports g h (crossed a b)
-      go true e = rw e first
-      go false e = rw e (ap₂ summed first (notice-reports g (touched (pageOf a) ∷ h) (noticedIn g s a .1) second b))
+      -- the first page's notice leaves the second's report
+      last : eqb (pageOf a) (pageOf b) ≡ false → reportIn g s b ≡ report g (touched (pageOf a) ∷ h) (pageOf b)
+      last e = sym (report-apart g s (fits g h s y) a b (eqb-false (pageOf a) (pageOf b) e)) ∙ notice-reports g (touched (pageOf a) ∷ h) (noticedIn g s a) second b
 
-  pub write-keeps : Stands g (crossed a b ++ h) (noticedPages g s a b .1)
+      go : (t : Bool) → eqb (pageOf a) (pageOf b) ≡ t → reportPages g s a b ≡ reports g h (crossed a b)
+      go true e = rw e first
+      go false e = rw e (ap₂ summed first (last e))
+
+  pub write-keeps : Stands g (crossed a b ++ h) (noticedPages g s a b)
   write-keeps = go (eqb (pageOf a) (pageOf b)) refl
     where
-      go : (t : Bool) → eqb (pageOf a) (pageOf b) ≡ t → Stands g (crossed a b ++ h) (noticedPages g s a b .1)
+      go : (t : Bool) → eqb (pageOf a) (pageOf b) ≡ t → Stands g (crossed a b ++ h) (noticedPages g s a b)
       go true e = rw e second
-      go false e = rw e (notice-keeps g (touched (pageOf a) ∷ h) (noticedIn g s a .1) second b)
+      go false e = rw e (notice-keeps g (touched (pageOf a) ∷ h) (noticedIn g s a) second b)
 
 -- a new store
 pub make-keeps : (e base pages : ℕ) → inBounds e base pages ≡ true → Stands (geometry e base pages) [] (header (geometry e base pages) 1 ++ blank (geometry e base pages))

@@ -4,4 +4,5 @@ pub mod Past
 pub mod Stands
 pub mod Answers
 pub mod Honest
+pub mod Hits
 pub mod Worthless

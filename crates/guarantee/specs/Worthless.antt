@@ -8,11 +8,12 @@ use mathlib.Core.Option.{Option, none, some}
 use lib.Dec.{eqb}
 use Rattle.store.specs.Layout.{slotOf}
 use Rattle.store.specs.declared.Geometry.{Geometry}
-use Rattle.history.specs.History.{Event, inserted, touched, flushed, insertions, shown, examined}
+use Rattle.history.specs.History.{Event, inserted, touched, flushed, insertions, shown}
 use Rattle.guarantee.specs.Calls.{Call}
 use Rattle.guarantee.specs.Past.{unmade, since, pageOf, past}
+use Rattle.guarantee.specs.Answers.{report}
 
--- what a cache shows at an address after a history, and the slots it says it examined for a page
+-- what a cache shows at an address after a history, and a number that it reports of a touch of a page
 abbrev pub Shows : Type 0
 Shows = Geometry → List Event → ℕ → Option (List ℕ)
 
@@ -23,8 +24,15 @@ Counts = Geometry → List Event → ℕ → ℕ
 abbrev pub ShowsRight : Shows → Type 0
 ShowsRight f = (sLen mLen : ℕ) (calls : List Call) (g : Geometry) (h : List Event) → past sLen mLen unmade calls ≡ since g h → (a : ℕ) → f g h a ≡ shown (slotOf g) pageOf h a
 
-abbrev pub CountsRight : Counts → Type 0
-CountsRight f = (sLen mLen : ℕ) (calls : List Call) (g : Geometry) (h : List Event) → past sLen mLen unmade calls ≡ since g h → (p : ℕ) → f g h p ≡ examined (slotOf g) pageOf (2 ^ g .e) h p
+abbrev pub CountsRight : Counts → Counts → Type 0
+CountsRight due f = (sLen mLen : ℕ) (calls : List Call) (g : Geometry) (h : List Event) → past sLen mLen unmade calls ≡ since g h → (p : ℕ) → f g h p ≡ due g h p
+
+-- the numbers that are due: the slots examined, and the places dropped
+abbrev pub slotsDue : Counts
+slotsDue g h p = report g h p .examined
+
+abbrev pub dropsDue : Counts
+dropsDue g h p = report g h p .dropped
 
 -- takes insertions and keeps nothing
 abbrev pub keepsNothing : Shows
@@ -50,7 +58,7 @@ untouched g (flushed ∷ h) a = none
 abbrev pub emptiesAll : Shows
 emptiesAll g h a = untouched g h a
 
--- make their counts up: always every slot, and never one
+-- make their counts up: always every slot, and always 0; the slots examined may stand for the places dropped too
 abbrev pub alwaysAll : Counts
 alwaysAll g h p = 2 ^ g .e
 

@@ -9,7 +9,7 @@ use native.Mathlib.Nat.{mul-zero, mul-suc, mul-le-mul-left}
 use borrow.Author.Tests.{eqb-true, eqb-false}
 use lib.Dec.{eqb}
 use lib.ListN.{length}
-use Rattle.history.specs.History.{Event, inserted, touched, flushed, insertions, marked, total}
+use Rattle.history.specs.History.{Event, inserted, touched, flushed, insertions, marked, examined, total}
 
 -- the pages of the insertions since their last touch, each as often as it had one
 without : ℕ → List ℕ → List ℕ
@@ -70,18 +70,18 @@ module _ (slot page : ℕ → ℕ) where
   marked-live (touched q ∷ h) p = rw (marked-live h p) (sym (has-without p q (live h)))
   marked-live (flushed ∷ h) p = refl
 
-  paid : (n : ℕ) (h : List Event) → total slot page n h + n * length (live h) ≤ n * insertions h
+  paid : (n : ℕ) (h : List Event) → total (examined slot page n) h + n * length (live h) ≤ n * insertions h
   unfolding total insertions live
   paid n [] = simp mul-zero (omega arith)
   paid n (inserted a r ∷ h) = simp mul-suc (omega (arith, paid n h))
   paid n (touched p ∷ h) = go (paid n h) (marked slot page h p) refl
     where
-      go : total slot page n h + n * length (live h) ≤ n * insertions h → (t : Bool) → marked slot page h p ≡ t → cond t n 0 + total slot page n h + n * length (without p (live h)) ≤ n * insertions h
+      go : total (examined slot page n) h + n * length (live h) ≤ n * insertions h → (t : Bool) → marked slot page h p ≡ t → cond t n 0 + total (examined slot page n) h + n * length (without p (live h)) ≤ n * insertions h
       go ih true et =
           let w : n * suc (length (without p (live h))) ≤ n * length (live h) = mul-le-mul-left n (without-less p (live h) (sym (marked-live h p) ∙ et)) in
           omega (arith, rw mul-suc at w)
       go ih false et = omega (arith, mul-le-mul-left n (without-le p (live h)))
   paid n (flushed ∷ h) = simp mul-zero (omega (arith, paid n h))
 
-  pub bound : (n : ℕ) (h : List Event) → total slot page n h ≤ n * insertions h
+  pub bound : (n : ℕ) (h : List Event) → total (examined slot page n) h ≤ n * insertions h
   bound n h = omega (arith, paid n h)

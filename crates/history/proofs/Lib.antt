@@ -2,3 +2,4 @@
 pub mod Bound
 pub mod Sentences
 pub mod Places
+pub mod Dropped

@@ -32,11 +32,11 @@ module _ (slot page : ℕ → ℕ) where
   places (flushed ∷ h) i = empty
 
   -- a place that holds an address is that of its slot, and its page is marked
-  abbrev InPlace : List Event → ℕ → Place → Type 0
+  abbrev pub InPlace : List Event → ℕ → Place → Type 0
   InPlace h i empty = Unit {0}
   InPlace h i (full a r) = (slot a ≡ i) × (marked slot page h (page a) ≡ true)
 
-  in-place : (h : List Event) (i : ℕ) → InPlace h i (places h i)
+  pub in-place : (h : List Event) (i : ℕ) → InPlace h i (places h i)
   unfolding places marked
   in-place [] i = tt
   in-place (inserted b q ∷ h) i = go (eqb (slot b) i) refl (places h i) (in-place h i)

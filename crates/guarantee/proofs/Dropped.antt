@@ -1,0 +1,123 @@
+-- For an operator: a notice reports as dropped the addresses of its page that a lookup hit just before, and a guest write those of its pages.
+-- Assumes nothing.
+use mathlib.Core.Path.{_≡_, refl, sym, ap, ap₂, subst, _∙_}
+use mathlib.Core.Bool.{Bool, true, false, cond}
+use mathlib.Core.List.{List}
+use mathlib.Core.Logic.{_⊎_, inl, inr}
+use mathlib.Core.Option.{Option, none, some}
+use Prim.Native.Nat.{ℕ, _+_, _-_, _≤_, _<_}
+use native.Mathlib.Omega.{arith}
+use lib.Dec.{eqb}
+use lib.ListN.{length}
+use borrow.Author.Tests.{eqb-true, eq-eqb}
+use Rattle.bits.proofs.Count.{count-same, count-some, some-count}
+use Rattle.bits.proofs.Every.{decide}
+use Rattle.answer.specs.declared.Refusal.{Refusal}
+use Rattle.store.specs.Layout.{slotOf}
+use Rattle.store.specs.declared.Geometry.{Geometry}
+use Rattle.store.specs.declared.Opened.the-variants.{Sound}
+use Rattle.cache.specs.Answers.{lookupNumber, reported}
+use Rattle.cache.specs.Calls.{reportIn, summed, noticeCall}
+use Rattle.cache.specs.declared.Judged.{Judged}
+use Rattle.cache.specs.declared.Judged.the-variants.{Accepted, Rejected}
+use Rattle.cache.specs.declared.Report.{Report}
+use Rattle.cache.specs.declared.ReportAnswer.{ReportAnswer}
+use Rattle.cache.specs.declared.ReportAnswer.the-variants.{Reported, NotReported}
+use Rattle.write.specs.Write.{writeJudged, reportPages, writeBy, writeCall}
+use Rattle.history.specs.History.{Event, anything, shown}
+use Rattle.guarantee.specs.Calls.{Call, Lent, run}
+use Rattle.guarantee.specs.Past.{Past, since, pageOf, pastOf}
+use Rattle.guarantee.specs.Stands.{Stands, Follows}
+use Rattle.guarantee.specs.Answers.{lookupAnswered, live}
+use Rattle.guarantee.specs.Hits.{hitsIn, hitsAcross, HitIn}
+use Rattle.guarantee.proofs.Simulation.{firstOf, in-page, its-page, notice-reports}
+use Rattle.guarantee.proofs.Lookup.{lookup-is}
+use Rattle.guarantee.proofs.Run.{write-own}
+use Rattle.guarantee.proofs.Guarantee.{stands, notice-answers}
+
+abbrev droppedOf : ReportAnswer → ℕ
+droppedOf answer = reported answer .dropped
+
+-- a page has hits exactly when one of its addresses does, in any bytes
+hits-one : (s : List ℕ) (p : ℕ) → 1 ≤ hitsIn s p → HitIn s p
+hits-one s p c =
+    let w = count-some 4096 _ c in
+    record { address = firstOf p + w .at; in-page = in-page p (w .at) (w .below); hits = eqb-true _ _ (w .passes) }
+
+one-hits : (s : List ℕ) (p : ℕ) → HitIn s p → 1 ≤ hitsIn s p
+one-hits s p w = some-count 4096 _ (record { at = w .address - firstOf p; below = omega (arith, there); passes = rw back (eq-eqb _ _ (w .hits)) })
+  where
+    there : (firstOf p ≤ w .address) × (w .address < firstOf p + 4096)
+    there = subst (λ (q : ℕ). (firstOf q ≤ w .address) × (w .address < firstOf q + 4096)) (w .in-page) (its-page (w .address))
+
+    back : firstOf p + (w .address - firstOf p) ≡ w .address
+    back = omega (arith, there)
+
+-- and the two pages of a write
+across-one : (s : List ℕ) (a b : ℕ) → 1 ≤ hitsAcross s a b → HitIn s (pageOf a) ⊎ HitIn s (pageOf b)
+across-one s a b = go (eqb (pageOf a) (pageOf b))
+  where
+    go : (t : Bool) → 1 ≤ cond t (hitsIn s (pageOf a)) (hitsIn s (pageOf a) + hitsIn s (pageOf b)) → HitIn s (pageOf a) ⊎ HitIn s (pageOf b)
+    go true c = inl (hits-one s (pageOf a) c)
+    go false c = decide (hitsIn s (pageOf a)) 0 (λ e. inr (hits-one s (pageOf b) (omega arith))) (λ d. inl (hits-one s (pageOf a) (omega arith)))
+
+one-across : (s : List ℕ) (a b : ℕ) → HitIn s (pageOf a) ⊎ HitIn s (pageOf b) → 1 ≤ hitsAcross s a b
+one-across s a b w = go (eqb (pageOf a) (pageOf b)) refl w
+  where
+    go : (t : Bool) → eqb (pageOf a) (pageOf b) ≡ t → HitIn s (pageOf a) ⊎ HitIn s (pageOf b) → 1 ≤ cond t (hitsIn s (pageOf a)) (hitsIn s (pageOf a) + hitsIn s (pageOf b))
+    go true e (inl v) = one-hits s (pageOf a) v
+    go true e (inr v) = one-hits s (pageOf a) (subst (HitIn s) (sym (eqb-true (pageOf a) (pageOf b) e)) v)
+    go false e (inl v) = omega (arith, one-hits s (pageOf a) v)
+    go false e (inr v) = omega (arith, one-hits s (pageOf b) v)
+
+-- in a store that stands for a past
+module _ (g : Geometry) (h : List Event) (s : List ℕ) (y : Stands g h s) where
+  -- what the past shows, a lookup hits
+  live-hits : (p : ℕ) → live g h p ≡ hitsIn s p
+  live-hits p = count-same 4096 _ _ (λ k c. rw (lookup-is g h s y (firstOf p + k)) (go (firstOf p + k) (shown (slotOf g) pageOf h (firstOf p + k))))
+    where
+      go : (a : ℕ) (o : Option (List ℕ)) → anything o ≡ eqb (lookupNumber (lookupAnswered g a o)) 0
+      go a (some r) = refl
+      go a none = refl
+
+  notice-drops : (a : ℕ) → reportIn g s a .dropped ≡ hitsIn s (pageOf a)
+  notice-drops a = ap (λ (r : Report). r .dropped) (notice-reports g h s y a) ∙ live-hits (pageOf a)
+
+  pages-drop : (a b : ℕ) → reportPages g s a b .dropped ≡ hitsAcross s a b
+  pages-drop a b = go (eqb (pageOf a) (pageOf b))
+    where
+      go : (t : Bool) → cond t (reportIn g s a) (summed (reportIn g s a) (reportIn g s b)) .dropped ≡ cond t (hitsIn s (pageOf a)) (hitsIn s (pageOf a) + hitsIn s (pageOf b))
+      go true = notice-drops a
+      go false = ap₂ _+_ (notice-drops a) (notice-drops b)
+
+  write-drops : (m : List ℕ) (a n v : ℕ) (r : Report) → writeCall s m a n v .0 ≡ Reported r → r .dropped ≡ hitsAcross s a (a + n - 1)
+  write-drops m a n v r q = go (writeJudged (Sound g) (length m) a n) refl (rw (y .sound) at q)
+    where
+      refused : (why : Refusal) → NotReported why ≡ Reported r → ⊥
+      refused why k = let z : _≡_ {A = ℕ} 0 1 = cc in omega arith
+
+      go : (j : Judged) → writeJudged (Sound g) (length m) a n ≡ j → writeBy (writeJudged (Sound g) (length m) a n) s m a n v .0 ≡ Reported r → r .dropped ≡ hitsAcross s a (a + n - 1)
+      go (Accepted k) e u = let own = write-own g h s y (length m) a n k e in ap droppedOf (sym (rw (own .0) at u)) ∙ pages-drop a (a + n - 1)
+      go (Rejected why) e u = absurd (refused why (rw e at u))
+
+module _ (p : Past) (l : Lent) (start : Follows p (l .store)) (calls : List Call) (g : Geometry) (h : List Event) (is : pastOf p calls l ≡ since g h) where
+  -- a notice: the number, and that it is above 0 exactly when an address of the page hit just before
+  pub dropped-is : (a : ℕ) → reported (noticeCall (run calls l .store) a .0) .dropped ≡ hitsIn (run calls l .store) (pageOf a)
+  dropped-is a = ap droppedOf (notice-answers p l start calls g h is a) ∙ live-hits g h (run calls l .store) (stands p l start calls g h is) (pageOf a)
+
+  pub dropped-live : (a : ℕ) → 1 ≤ reported (noticeCall (run calls l .store) a .0) .dropped → HitIn (run calls l .store) (pageOf a)
+  dropped-live a c = hits-one (run calls l .store) (pageOf a) (subst (λ (k : ℕ). 1 ≤ k) (dropped-is a) c)
+
+  pub live-dropped : (a : ℕ) → HitIn (run calls l .store) (pageOf a) → 1 ≤ reported (noticeCall (run calls l .store) a .0) .dropped
+  live-dropped a w = subst (λ (k : ℕ). 1 ≤ k) (sym (dropped-is a)) (one-hits (run calls l .store) (pageOf a) w)
+
+  -- an accepted guest write, by the pages of its first byte and its last
+  module _ (a n v : ℕ) (r : Report) (accepted : writeCall (run calls l .store) (run calls l .memory) a n v .0 ≡ Reported r) where
+    pub write-dropped-is : r .dropped ≡ hitsAcross (run calls l .store) a (a + n - 1)
+    write-dropped-is = write-drops g h (run calls l .store) (stands p l start calls g h is) (run calls l .memory) a n v r accepted
+
+    pub write-dropped-live : 1 ≤ r .dropped → HitIn (run calls l .store) (pageOf a) ⊎ HitIn (run calls l .store) (pageOf (a + n - 1))
+    write-dropped-live c = across-one (run calls l .store) a (a + n - 1) (subst (λ (k : ℕ). 1 ≤ k) write-dropped-is c)
+
+    pub live-write-dropped : HitIn (run calls l .store) (pageOf a) ⊎ HitIn (run calls l .store) (pageOf (a + n - 1)) → 1 ≤ r .dropped
+    live-write-dropped w = subst (λ (k : ℕ). 1 ≤ k) (sym write-dropped-is) (one-across (run calls l .store) a (a + n - 1) w)
