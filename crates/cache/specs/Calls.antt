@@ -80,7 +80,7 @@ evicted g s a = eachPlace (emptied (a / 4096)) (front (g .pages)) (g .stride) (2
 abbrev pub noticedIn : Geometry → List ℕ → ℕ → List ℕ
 noticedIn g s a = cond (watched g s a) (evicted g s a) s
 
--- the places with an address in the page of a
+-- how many places have an address in the page of a
 abbrev pub droppedIn : Geometry → List ℕ → ℕ → ℕ
 droppedIn g s a = placesIn (a / 4096) (front (g .pages)) (g .stride) (2 ^ g .e) s
 

@@ -5,7 +5,7 @@ use mathlib.Core.Bool.{Bool, true, false, cond}
 use mathlib.Core.List.{List}
 use mathlib.Core.Logic.{_⊎_, inl, inr}
 use mathlib.Core.Option.{Option, none, some}
-use Prim.Native.Nat.{ℕ, _+_, _-_, _≤_, _<_}
+use Prim.Native.Nat.{ℕ, _+_, _-_, _≤_}
 use native.Mathlib.Omega.{arith}
 use lib.Dec.{eqb}
 use lib.ListN.{length}
@@ -30,7 +30,7 @@ use Rattle.guarantee.specs.Past.{Past, since, pageOf, pastOf}
 use Rattle.guarantee.specs.Stands.{Stands, Follows}
 use Rattle.guarantee.specs.Answers.{lookupAnswered, live}
 use Rattle.guarantee.specs.Hits.{hitsIn, hitsAcross, HitIn}
-use Rattle.guarantee.proofs.Simulation.{firstOf, in-page, its-page, notice-reports}
+use Rattle.guarantee.proofs.Simulation.{firstOf, in-page, notice-reports}
 use Rattle.guarantee.proofs.Lookup.{lookup-is}
 use Rattle.guarantee.proofs.Run.{write-own}
 use Rattle.guarantee.proofs.Guarantee.{stands, notice-answers}
@@ -45,13 +45,10 @@ hits-one s p c =
     record { address = firstOf p + w .at; in-page = in-page p (w .at) (w .below); hits = eqb-true _ _ (w .passes) }
 
 one-hits : (s : List ℕ) (p : ℕ) → HitIn s p → 1 ≤ hitsIn s p
-one-hits s p w = some-count 4096 _ (record { at = w .address - firstOf p; below = omega (arith, there); passes = rw back (eq-eqb _ _ (w .hits)) })
+one-hits s p w = some-count 4096 _ (record { at = w .address - firstOf p; below = omega (arith, w .in-page); passes = rw back (eq-eqb _ _ (w .hits)) })
   where
-    there : (firstOf p ≤ w .address) × (w .address < firstOf p + 4096)
-    there = subst (λ (q : ℕ). (firstOf q ≤ w .address) × (w .address < firstOf q + 4096)) (w .in-page) (its-page (w .address))
-
     back : firstOf p + (w .address - firstOf p) ≡ w .address
-    back = omega (arith, there)
+    back = omega (arith, w .in-page)
 
 -- and the two pages of a write
 across-one : (s : List ℕ) (a b : ℕ) → 1 ≤ hitsAcross s a b → HitIn s (pageOf a) ⊎ HitIn s (pageOf b)

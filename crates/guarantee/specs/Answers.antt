@@ -33,7 +33,7 @@ abbrev pub partFor : Geometry → Option (List ℕ) → List ℕ
 partFor g (some r) = placeFor g r
 partFor g none = []
 
--- the addresses of page p that a lookup would hit after the events h
+-- how many addresses of page p a lookup would hit after the events h
 abbrev pub live : Geometry → List Event → ℕ → ℕ
 live g h p = hitsFrom (slotOf g) pageOf (4096 * p) 4096 h
 

@@ -58,7 +58,7 @@ untouched g (flushed ∷ h) a = none
 abbrev pub emptiesAll : Shows
 emptiesAll g h a = untouched g h a
 
--- make their counts up: always every slot, and always 0; the slots examined may stand for the places dropped too
+-- make their counts up: always every slot, and always 0; for the places dropped also the slots examined, slotsDue
 abbrev pub alwaysAll : Counts
 alwaysAll g h p = 2 ^ g .e
 

@@ -57,30 +57,30 @@ has-without p q (x ∷ l) = go (has-without p q l) (eqb x q) (eqb q p) (eqb x p)
     go ih false false false et eu ew = rw ew (ih ∙ rw eu)
 
 module _ (slot page : ℕ → ℕ) where
-  live : List Event → List ℕ
-  live [] = []
-  live (inserted a r ∷ h) = page a ∷ live h
-  live (touched p ∷ h) = without p (live h)
-  live (flushed ∷ h) = []
+  marks : List Event → List ℕ
+  marks [] = []
+  marks (inserted a r ∷ h) = page a ∷ marks h
+  marks (touched p ∷ h) = without p (marks h)
+  marks (flushed ∷ h) = []
 
-  marked-live : (h : List Event) (p : ℕ) → marked slot page h p ≡ has p (live h)
-  unfolding marked live has
-  marked-live [] p = refl
-  marked-live (inserted a r ∷ h) p = rw (marked-live h p)
-  marked-live (touched q ∷ h) p = rw (marked-live h p) (sym (has-without p q (live h)))
-  marked-live (flushed ∷ h) p = refl
+  marked-has : (h : List Event) (p : ℕ) → marked slot page h p ≡ has p (marks h)
+  unfolding marked marks has
+  marked-has [] p = refl
+  marked-has (inserted a r ∷ h) p = rw (marked-has h p)
+  marked-has (touched q ∷ h) p = rw (marked-has h p) (sym (has-without p q (marks h)))
+  marked-has (flushed ∷ h) p = refl
 
-  paid : (n : ℕ) (h : List Event) → total (examined slot page n) h + n * length (live h) ≤ n * insertions h
-  unfolding total insertions live
+  paid : (n : ℕ) (h : List Event) → total (examined slot page n) h + n * length (marks h) ≤ n * insertions h
+  unfolding total insertions marks
   paid n [] = simp mul-zero (omega arith)
   paid n (inserted a r ∷ h) = simp mul-suc (omega (arith, paid n h))
   paid n (touched p ∷ h) = go (paid n h) (marked slot page h p) refl
     where
-      go : total (examined slot page n) h + n * length (live h) ≤ n * insertions h → (t : Bool) → marked slot page h p ≡ t → cond t n 0 + total (examined slot page n) h + n * length (without p (live h)) ≤ n * insertions h
+      go : total (examined slot page n) h + n * length (marks h) ≤ n * insertions h → (t : Bool) → marked slot page h p ≡ t → cond t n 0 + total (examined slot page n) h + n * length (without p (marks h)) ≤ n * insertions h
       go ih true et =
-          let w : n * suc (length (without p (live h))) ≤ n * length (live h) = mul-le-mul-left n (without-less p (live h) (sym (marked-live h p) ∙ et)) in
+          let w : n * suc (length (without p (marks h))) ≤ n * length (marks h) = mul-le-mul-left n (without-less p (marks h) (sym (marked-has h p) ∙ et)) in
           omega (arith, rw mul-suc at w)
-      go ih false et = omega (arith, mul-le-mul-left n (without-le p (live h)))
+      go ih false et = omega (arith, mul-le-mul-left n (without-le p (marks h)))
   paid n (flushed ∷ h) = simp mul-zero (omega (arith, paid n h))
 
   pub bound : (n : ℕ) (h : List Event) → total (examined slot page n) h ≤ n * insertions h

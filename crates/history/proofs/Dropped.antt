@@ -6,7 +6,7 @@ use mathlib.Core.List.{List, [], _∷_}
 use mathlib.Core.Option.{Option, none, some}
 use Prim.Native.Nat.{ℕ, _+_, _-_, _≤_, _<_}
 use native.Mathlib.Omega.{arith}
-use native.Mathlib.Nat.{le-antisymm}
+use native.Mathlib.Nat.{add-zero, le-antisymm}
 use borrow.Author.Tests.{eqb-true, eq-eqb, ne-eqb}
 use lib.Dec.{eqb}
 use Rattle.bits.specs.Count.{count}
@@ -48,12 +48,9 @@ module _ (slot page : ℕ → ℕ) where
       one empty = refl
       one (full a r) = scanned (eqb (page a) p) a r
 
-      sum : (x : ℕ) → x + 0 ≡ x
-      sum x = omega arith
-
       go : (t : Bool) → marked slot page h p ≡ t → cond (isFull (cond (marked slot page h p) (swept slot page p (places slot page h i)) (places slot page h i))) 1 0 + cond (placeInPage p (places slot page h i)) 1 0 ≡ cond (isFull (places slot page h i)) 1 0
       go true e = rw e (one (places slot page h i))
-      go false e = rw (e, unmarked-out h p i e) (sum (cond (isFull (places slot page h i)) 1 0))
+      go false e = rw (e, unmarked-out h p i e) (add-zero (cond (isFull (places slot page h i)) 1 0))
 
   -- n slots, and m addresses to a page, from the first of each on
   module _ (n : ℕ) (slots : (a : ℕ) → slot a < n) (first : ℕ → ℕ) (m : ℕ) (in-page : (p k : ℕ) → k < m → page (first p + k) ≡ p) (its-page : (a : ℕ) → (first (page a) ≤ a) × (a < first (page a) + m)) where

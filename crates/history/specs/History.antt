@@ -67,7 +67,7 @@ module _ (slot page : ℕ → ℕ) where
   abbrev pub hitsFrom : ℕ → ℕ → List Event → ℕ
   hitsFrom a m h = count m (λ k. anything (shown h (a + k)))
 
-  -- the same in one sentence each, as in docs/FORMATS.md, What any history guarantees
+  -- shown and marked in one sentence each, as in docs/FORMATS.md, What any history guarantees
   abbrev pub Harmless : ℕ → Event → Type 0
   Harmless a (inserted b r) = slot b ≡ slot a → ⊥
   Harmless a (touched p) = p ≡ page a → ⊥

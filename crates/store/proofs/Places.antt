@@ -11,10 +11,9 @@ use lib.Dec.{eqb}
 use borrow.Author.Tests.{eqb-true, ne-eqb}
 use lib.ListN.{length, drop, replicate, length-append, length-replicate, replicate-append-replicate}
 use Rattle.bits.specs.Bytes.{le, part, patch, doublewordAt}
+use Rattle.bits.specs.Count.{count}
 use Rattle.bits.proofs.Bytes.{length-le, length-patch, length-part, part-behind, le-zero, le-cons, patch-append}
 use Rattle.store.specs.Layout.{signature, header, front}
-use Rattle.bits.specs.Count.{count}
-use Rattle.bits.proofs.Count.{count-le}
 use Rattle.store.specs.Places.{emptyPlace, inPage, emptied, vacated, eachPlace, placesIn, copies}
 use Rattle.store.specs.declared.Geometry.{Geometry}
 use Rattle.store.proofs.Known.{after}
