@@ -1,5 +1,6 @@
 /* Unvriscol in C: RISC-V decoding, block forming, a block cache, and the ALU without multiply and divide. Each function is proved: on all inputs it
- * ends, and its number, what stands beside it and every lent byte afterwards are what docs/PROMISES.md says. docs/FORMATS.md has the formats with drawings.
+ * ends, and its number, what stands beside it and every lent byte afterwards are what docs/PROMISES.md says. docs/FORMATS.md has the formats with
+ * drawings.
  *
  * Link target/staticlib/libunvriscol.a, which `rt staticlib unvriscol` writes, for x86-64 Linux. Of the C library it needs memcpy and memset.
  * examples/door.c makes every call.
@@ -186,12 +187,12 @@ uv_answer uv_lookup(const uint8_t *store, size_t store_len, uint64_t address);
 uint64_t uv_insert(uint8_t *store, size_t store_len, uint64_t address, const uint8_t *record, size_t record_len);
 
 /* Tell the cache of a write at an address, after the write and before the next lookup: the blocks of its page are dropped. A write that crosses into
- * a second page needs a notice for each. examined is 2^e, or 0 where the page has had no insertion since it was last dropped or the address is outside
- * memory. Where only calls have changed the store, dropped is above 0 exactly when a lookup of some address of the page would have hit just before.
- * Refusal: 1. */
+ * a second page needs a notice for each. Where only calls have changed the store: examined is 2^e exactly when the page has had an insertion since
+ * its last notice, guest write or flush, else 0, also for an address outside memory; dropped is above 0 exactly when a lookup of some address of the
+ * page would have hit just before. Refusal: 1. */
 uv_report uv_notice(uint8_t *store, size_t store_len, uint64_t address);
 
-/* Drop every block; the generation is kept. Refusal: 1. */
+/* Empty every place; the generation is kept. Refusal: 1. */
 uint64_t uv_flush(uint8_t *store, size_t store_len);
 
 /* The value is the generation: 1 at first, and 1 more with each insertion, wrapping. Refusal: 1. */

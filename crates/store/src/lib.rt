@@ -207,7 +207,7 @@ fn empty(place: &mut [u8])
     bits::put_doubleword(place, 0, Slot::EMPTY);
 }
 
-// The places dropped so far, and this one if it was emptied. Passed on so, the number costs a place that stays no instruction.
+// The count of places dropped so far, with this one if it is emptied. Passed on like this, it costs a place that stays no instruction.
 fn empty_if(place: &mut [u8], page: u64, dropped: u64) -> u64
     requires { ⌜ (8 ≤ length (now place)) × (dropped + 1 < 2 ^ 64) ⌝ }
     ensures { λ r. ⌜ (r ≡ dropped + cond (inPage page (now (place .entry))) 1 0) × (now (place .exit) ≡ emptied page (now (place .entry))) ⌝ }

@@ -1,4 +1,4 @@
--- A call's outcome as C sees it: the number, and the value beside it, stand in the place of the answer.
+-- A call's outcome as C sees it: the number, and what stands beside it, are in the place of the answer.
 -- Assumes nothing.
 use Prim.Native.Nat.{ℕ}
 use mathlib.Core.List.{List}

@@ -499,7 +499,7 @@ pub fn pages_of(address: u64, size: u64) -> Vec<u64> {
     (address / PAGE..=(address + size - 1) / PAGE).collect()
 }
 
-/// The original's cache beside ours at e = 14: numbers, values and records at each call; all slots, tags and page marks at every 512th.
+/// The original's cache beside ours at e = 14: answers and records at each call; all slots, tags and page marks at every 512th.
 pub fn original(plan: &Plan, tally: &mut Tally) {
     for (part, (pages, base)) in [(2, 0), (9, 0x8000_0000), (70, 0x1000)]
         .into_iter()

@@ -15,7 +15,7 @@ pub struct Store<B = Box<[u8]>> {
 pub struct Report {
     /// Slots that were looked at: all of them for each page that may have had blocks.
     pub examined: u64,
-    /// Blocks that were dropped. Above 0: the write hit a page with blocks in the cache.
+    /// Blocks that were dropped: above 0 where a lookup in the pages written would have hit just before.
     pub dropped: u64,
 }
 
@@ -103,7 +103,7 @@ impl<B: AsRef<[u8]> + AsMut<[u8]>> Store<B> {
     }
 
     /// Drops the blocks of the address's page, to be told after a write there and before the next lookup. Slots are examined only where the page has
-    /// had an insertion since it was last dropped.
+    /// had an insertion since its last notice, guest write or flush.
     #[inline]
     pub fn notice(&mut self, address: u64) -> Report {
         let bytes = self.bytes.as_mut();
@@ -167,7 +167,7 @@ impl<B: AsRef<[u8]> + AsMut<[u8]>> Store<B> {
         self.notice(physical_address);
     }
 
-    /// Drops every block.
+    /// Empties the cache.
     pub fn flush_all(&mut self) {
         let bytes = self.bytes.as_mut();
         // SAFETY: as in `make`.
@@ -226,12 +226,12 @@ mod tests {
         assert_eq!(store.code_generation(), 3);
         // c.li a0, 2 and ret
         let written = store.guest_write(&mut memory, BASE, 4, 0x8082_4509);
-        let dropped = |examined, dropped| Report { examined, dropped };
-        assert_eq!(written, Ok(dropped(4, 1)));
+        let report = |examined, dropped| Report { examined, dropped };
+        assert_eq!(written, Ok(report(4, 1)));
         assert_eq!(store.lookup(BASE), None);
         assert!(store.lookup(BASE + 4100).is_some());
         assert_eq!(step(&mut store, &mut (&memory[..], BASE), BASE), Some(4));
-        assert_eq!(store.notice(BASE + 4097), dropped(4, 1));
+        assert_eq!(store.notice(BASE + 4097), report(4, 1));
         assert_eq!(store.notice(BASE + 4097), Report::default());
         store.flush_all();
         assert_eq!(store.find(BASE), Err(Error::Miss));

@@ -406,7 +406,10 @@ fn what_they_return() {
         let of_c: Vec<&str> = words(of_c).collect();
         let expected = fields(&rattle, proved);
         assert_eq!(fields(&rust, here), expected, "{here}");
-        let typed = of_c.chunks(2).flat_map(|pair| ["pub", pair[1], "u64"]);
+        let typed = of_c.chunks(2).flat_map(|pair| {
+            let (kind, field) = (pair[0], pair[1]);
+            ["pub", field, if kind == "uint64_t" { "u64" } else { kind }]
+        });
         assert_eq!(typed.collect::<Vec<_>>(), expected, "{c}");
     }
 }
