@@ -16,8 +16,9 @@ in-bounds-spec =
     (λ c.
     let a = c .before .args in
     sym (not-true _ (λ h. omega (arith, bounds-are (a .e) (a .base) (a .pages) h))))
+    (λ c κs. search needs)
     (λ c.
-    let a = c .before .before .args in
-    sym (not-true _ (λ h. omega (arith, bounds-are (a .e) (a .base) (a .pages) h))))
-    (λ c. search needs) (λ c κs. search needs)
-    (λ c. rw (le-leb (c .before .before .before .args .e) 14 (c .before .before .if1 .left)) (c .good-memory .ensures)))
+    let a = c .before .before .before .args in
+    sym (not-true _ (λ h. omega (arith, c .before .wrapping-sub-u64 .ensures, bounds-are (a .e) (a .base) (a .pages) h))))
+    (λ c. omega (arith, c .before .wrapping-sub-u64 .ensures)) (λ c κs. search needs)
+    (λ c. rw (le-leb (c .before .before .before .before .args .e) 14 (c .before .before .before .if1 .left)) (c .good-memory .ensures)))
