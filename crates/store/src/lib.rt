@@ -48,7 +48,7 @@ pub fn in_bounds(e: u64, base: u64, pages: u64) -> bool
     if 14 < e {
         return false;
     }
-    // one comparison for no page and for too many
+    // One comparison for no page and for too many.
     if MAX_PAGES <= std::num::wrapping_sub_u64(pages, 1) {
         return false;
     }
