@@ -1,18 +1,12 @@
 -- What passes a call's answer on as a number, or as a number and what stands beside it, keeps the call's promise.
 -- Assumes nothing.
-use mathlib.Core.Path.{_≡_, ap, ap₂, _∙_}
+use mathlib.Core.Path.{_≡_, ap, _∙_}
 use mathlib.Core.List.{List}
 use Prim.Native.Nat.{ℕ}
-use Rattle.cache.specs.Answers.{reportNumber, reported}
-use Rattle.cache.specs.declared.Report.{Report}
-use Rattle.cache.specs.declared.ReportAnswer.{ReportAnswer}
-use Rattle.unvriscol.specs.Seen.{both, reportSeen, seen, seenWithTwo}
+use Rattle.unvriscol.specs.Seen.{both, seen, seenWithTwo}
 
 pub both-passed : {A : Type 0} {n v : ℕ} {call : A} (number value : A → ℕ) (a : A) → n ≡ number a → v ≡ value a → a ≡ call → (n, v) ≡ both number value call
 both-passed {v = v} number value a p q r = ap (λ n. (n, v)) p ∙ ap (λ w. (number a, w)) q ∙ ap (both number value) r
-
-pub report-passed : {n : ℕ} {r : Report} (a : ReportAnswer) → n ≡ reportNumber a → r ≡ reported a → (n, r .examined, r .dropped) ≡ reportSeen a
-report-passed a p q = ap₂ (λ (n : ℕ) (r : Report). (n, r .examined, r .dropped)) p q
 
 module _ {A B : Type 0} {b : B} (see : A → B) (a : A) where
   pub passed : {s : List ℕ} {call : A × List ℕ} → b ≡ see a → (a, s) ≡ call → (b, s) ≡ seen see call

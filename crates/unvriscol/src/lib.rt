@@ -10,6 +10,7 @@ ghost use Rattle.cache.specs.Answers.{lookupNumber, lookupValue};
 ghost use Rattle.cache.specs.Calls.{makeCall, lookupCall, insertCall, noticeCall, flushCall, generationCall};
 ghost use Rattle.write.specs.Write.{writeCall};
 ghost use Rattle.unvriscol.specs.Seen.{both, reportSeen, seen, seenWithTwo};
+use cache::ReportAnswer;
 
 // The answer's number (docs/FORMATS.md), and the value beside it, which is 0 at every number but 0.
 #[repr(C)]
@@ -24,6 +25,18 @@ pub struct NumberedReport {
     pub number: u64,
     pub examined: u64,
     pub dropped: u64,
+}
+
+fn report_seen(answer: ReportAnswer) -> NumberedReport
+    ensures { λ r. ⌜ (r .number, r .examined, r .dropped) ≡ reportSeen answer ⌝ }
+{
+    let number = answer.number();
+    let report = answer.report();
+    NumberedReport {
+        number,
+        examined: report.examined,
+        dropped: report.dropped,
+    }
 }
 
 // Decodes a word into the lent op record.
@@ -99,13 +112,7 @@ pub extern "C" fn uv_notice(store: &mut [u8], address: u64) -> NumberedReport
     ensures { λ r. ⌜ ((r .number, r .examined, r .dropped), now (store .exit)) ≡ seen reportSeen (noticeCall (now (store .entry)) address) ⌝ }
 {
     let answer = cache::notice(store, address);
-    let number = answer.number();
-    let report = answer.report();
-    NumberedReport {
-        number,
-        examined: report.examined,
-        dropped: report.dropped,
-    }
+    report_seen(answer)
 }
 
 // Empties the cache.
@@ -140,11 +147,5 @@ pub extern "C" fn uv_guest_write(
     ensures { λ r. ⌜ ((r .number, r .examined, r .dropped), now (store .exit), now (memory .exit)) ≡ seenWithTwo reportSeen (writeCall (now (store .entry)) (now (memory .entry)) address size value) ⌝ }
 {
     let answer = write::guest_write(store, memory, address, size, value);
-    let number = answer.number();
-    let report = answer.report();
-    NumberedReport {
-        number,
-        examined: report.examined,
-        dropped: report.dropped,
-    }
+    report_seen(answer)
 }
