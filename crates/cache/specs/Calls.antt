@@ -27,18 +27,18 @@ use Rattle.cache.specs.declared.ReportAnswer.{ReportAnswer}
 use Rattle.cache.specs.declared.ReportAnswer.the-variants.{Reported, NotReported}
 
 -- Make: 2, 1, by the length alone. Generation 1, a zero bitmap, empty places.
-abbrev pub makeJudged : ℕ → ℕ → ℕ → ℕ → Judged
-makeJudged e base pages len =
-    cond (inBounds e base pages)
-    (cond (eqb len (storeLen (geometry e base pages))) (Accepted (geometry e base pages)) (Rejected NoStore))
+abbrev pub makeJudged : ℕ → ℕ → ℕ → ℕ → ℕ → Judged
+makeJudged reading e base pages len =
+    cond (inBounds reading e base pages)
+    (cond (eqb len (storeLen (geometry reading e base pages))) (Accepted (geometry reading e base pages)) (Rejected NoStore))
     (Rejected BadGeometry)
 
 abbrev pub makeBy : Judged → List ℕ → Answer × List ℕ
 makeBy (Accepted g) s = (Done, header g 1 ++ blank g)
 makeBy (Rejected why) s = (Refused why, s)
 
-abbrev pub makeCall : ℕ → ℕ → ℕ → List ℕ → Answer × List ℕ
-makeCall e base pages s = makeBy (makeJudged e base pages (length s)) s
+abbrev pub makeCall : ℕ → ℕ → ℕ → ℕ → List ℕ → Answer × List ℕ
+makeCall reading e base pages s = makeBy (makeJudged reading e base pages (length s)) s
 
 -- Lookup: 1, 9. A hit is the place of the address's slot, where it holds that address.
 abbrev pub placeOf : Geometry → ℕ → ℕ

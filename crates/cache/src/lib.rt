@@ -92,11 +92,11 @@ impl ReportAnswer {
     }
 }
 
-fn judge_make(e: u64, base: u64, pages: u64, len: usize) -> Judged
-    ensures { λ r. ⌜ r ≡ makeJudged e base pages len ⌝ }
+fn judge_make(reading: u64, e: u64, base: u64, pages: u64, len: usize) -> Judged
+    ensures { λ r. ⌜ r ≡ makeJudged reading e base pages len ⌝ }
 {
-    if store::in_bounds(e, base, pages) {
-        let g = Geometry::new(e, base, pages);
+    if store::in_bounds(reading, e, base, pages) {
+        let g = Geometry::new(reading, e, base, pages);
         if len == g.store_len() {
             Judged::Accepted(g)
         } else {
@@ -116,10 +116,10 @@ fn make_new(store: &mut [u8], g: Geometry)
 }
 
 // A new store over the lent bytes, whatever they were.
-pub fn make(store: &mut [u8], e: u64, base: u64, pages: u64) -> Answer
-    ensures { λ r. ⌜ (r, now (store .exit)) ≡ makeCall e base pages (now (store .entry)) ⌝ }
+pub fn make(store: &mut [u8], reading: u64, e: u64, base: u64, pages: u64) -> Answer
+    ensures { λ r. ⌜ (r, now (store .exit)) ≡ makeCall reading e base pages (now (store .entry)) ⌝ }
 {
-    match judge_make(e, base, pages, store.len()) {
+    match judge_make(reading, e, base, pages, store.len()) {
         Judged::Accepted(g) => {
             make_new(store, g);
             Answer::Done

@@ -1,18 +1,19 @@
--- What decoding puts into lent bytes; and the two decode calls, in any reading: the answer, and the lent bytes afterwards.
+-- What decoding puts into lent bytes; and the two decode calls, by the number of a reading: the answer, and the lent bytes afterwards.
 -- Assumes nothing.
 use Prim.Native.Nat.{ℕ}
-use mathlib.Core.Bool.{cond}
+use mathlib.Core.Bool.{cond, not}
 use mathlib.Core.List.{List}
 use lib.Dec.{eqb}
 use lib.ListN.{length}
-use Rattle.answer.specs.declared.Refusal.the-variants.{NoOp, WrongBuffer}
+use Rattle.answer.specs.declared.Refusal.the-variants.{BadGeometry, NoOp, WrongBuffer}
 use Rattle.answer.specs.declared.Answer.{Answer}
 use Rattle.answer.specs.declared.Answer.the-variants.{Done, Refused}
 use Rattle.bits.specs.Bytes.{patch}
-use Rattle.op.specs.Reading.{Reading}
+use Rattle.op.specs.Reading.{readingKnown}
 use Rattle.op.specs.Record.{opFields, opRecord}
 use Rattle.op.specs.declared.Decoded.{Decoded}
 use Rattle.op.specs.declared.Decoded.the-variants.{Some, None}
+use Rattle.reading.specs.Readings.{readingOf}
 use Rattle.decode.specs.declared.Put.{Put}
 use Rattle.decode.specs.declared.Put.the-variants.{Recorded, Nothing}
 
@@ -21,16 +22,18 @@ abbrev pub putOf : Decoded → ℕ → ℕ → ℕ → List ℕ → Put × List 
 putOf (Some op) ilen at pcOff s = (Recorded (opFields op .op) ilen, patch s at (opRecord op ilen pcOff))
 putOf None ilen at pcOff s = (Nothing, s)
 
--- a decode call: 6, 4
+-- a decode call: 2, 6, 4
 abbrev pub opOrNone : Decoded → ℕ → List ℕ → Answer × List ℕ
 opOrNone (Some op) ilen lent = (Done, opRecord op ilen 0)
 opOrNone None ilen lent = (Refused NoOp, lent)
 
-abbrev pub decodeCall : Decoded → ℕ → List ℕ → Answer × List ℕ
-decodeCall decoded ilen lent = cond (eqb (length lent) 16) (opOrNone decoded ilen lent) (Refused WrongBuffer, lent)
+abbrev pub decodeCall : ℕ → Decoded → ℕ → List ℕ → Answer × List ℕ
+decodeCall reading decoded ilen lent =
+    cond (not (readingKnown reading)) (Refused BadGeometry, lent)
+    (cond (not (eqb (length lent) 16)) (Refused WrongBuffer, lent) (opOrNone decoded ilen lent))
 
-abbrev pub wordCall : Reading → ℕ → List ℕ → Answer × List ℕ
-wordCall reading raw lent = decodeCall (reading .ofWord raw) 4 lent
+abbrev pub wordCall : ℕ → ℕ → List ℕ → Answer × List ℕ
+wordCall reading raw lent = decodeCall reading (readingOf reading .ofWord raw) 4 lent
 
-abbrev pub halfCall : Reading → ℕ → List ℕ → Answer × List ℕ
-halfCall reading raw lent = decodeCall (reading .ofHalf raw) 2 lent
+abbrev pub halfCall : ℕ → ℕ → List ℕ → Answer × List ℕ
+halfCall reading raw lent = decodeCall reading (readingOf reading .ofHalf raw) 2 lent

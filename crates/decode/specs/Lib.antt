@@ -1,3 +1,2 @@
--- The reading that the code has, and what the two decode calls answer and leave behind.
-pub mod Readings
+-- What decoding puts into lent bytes, and what the two decode calls answer and leave behind.
 pub mod Call

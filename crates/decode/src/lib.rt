@@ -3,9 +3,7 @@ ghost use mathlib.Core.Path.{_≡_};
 ghost use lib.Dec.{eqb};
 ghost use Prim.Native.Nat.{_+_, _≤_};
 ghost use lib.ListN.{length};
-ghost use Rattle.word.specs.Word.{rustWord};
-ghost use Rattle.halfword.specs.Halfword.{rustHalf};
-ghost use Rattle.decode.specs.Readings.{rust};
+ghost use Rattle.reading.specs.Readings.{readingOf};
 ghost use Rattle.decode.specs.Call.{putOf, wordCall, halfCall};
 use answer::Answer;
 use answer::Refusal;
@@ -39,45 +37,49 @@ fn write(decoded: Decoded, ilen: u8, lent: &mut [u8], at: usize, off: u16) -> Pu
 
 // Decodes a word and writes its record. Decoder and writer stand in one function, for forming and for the call below: then the compiler joins the end
 // of each arm of the decoder with its arm of the writer.
-pub fn put_word(raw: u32, lent: &mut [u8], at: usize, off: u16) -> Put
+pub fn put_word(reading: u64, raw: u32, lent: &mut [u8], at: usize, off: u16) -> Put
     requires { ⌜ at + 16 ≤ length (now lent) ⌝ }
-    ensures { λ r. ⌜ (r, now (lent .exit)) ≡ putOf (rustWord raw) 4 at off (now (lent .entry)) ⌝ }
+    ensures { λ r. ⌜ (r, now (lent .exit)) ≡ putOf (readingOf reading .ofWord raw) 4 at off (now (lent .entry)) ⌝ }
 {
-    write(word::decode_full(raw), 4, lent, at, off)
+    write(reading::read_word(reading, raw), 4, lent, at, off)
 }
 
 // Decodes a halfword and writes its record.
-pub fn put_halfword(raw: u16, lent: &mut [u8], at: usize, off: u16) -> Put
+pub fn put_halfword(reading: u64, raw: u16, lent: &mut [u8], at: usize, off: u16) -> Put
     requires { ⌜ at + 16 ≤ length (now lent) ⌝ }
-    ensures { λ r. ⌜ (r, now (lent .exit)) ≡ putOf (rustHalf raw) 2 at off (now (lent .entry)) ⌝ }
+    ensures { λ r. ⌜ (r, now (lent .exit)) ≡ putOf (readingOf reading .ofHalf raw) 2 at off (now (lent .entry)) ⌝ }
 {
-    write(halfword::decode_compressed(raw), 2, lent, at, off)
+    write(reading::read_halfword(reading, raw), 2, lent, at, off)
 }
 
 // Decodes a word into the lent record of sixteen bytes.
-pub fn decode_word(raw: u32, lent: &mut [u8]) -> Answer
-    ensures { λ r. ⌜ (r, now (lent .exit)) ≡ wordCall rust raw (now (lent .entry)) ⌝ }
+pub fn decode_word(reading: u64, raw: u32, lent: &mut [u8]) -> Answer
+    ensures { λ r. ⌜ (r, now (lent .exit)) ≡ wordCall reading raw (now (lent .entry)) ⌝ }
 {
-    if is_record(lent.len()) {
-        match put_word(raw, lent, 0, 0) {
-            Put::Recorded(_, _) => Answer::Done, // the word's record
-            Put::Nothing => Answer::Refused(Refusal::NoOp),
-        }
-    } else {
-        Answer::Refused(Refusal::WrongBuffer)
+    if !op::reading_known(reading) {
+        return Answer::Refused(Refusal::BadGeometry);
+    }
+    if !is_record(lent.len()) {
+        return Answer::Refused(Refusal::WrongBuffer);
+    }
+    match put_word(reading, raw, lent, 0, 0) {
+        Put::Recorded(_, _) => Answer::Done, // the word's record
+        Put::Nothing => Answer::Refused(Refusal::NoOp),
     }
 }
 
 // Decodes a halfword into the lent record of sixteen bytes.
-pub fn decode_halfword(raw: u16, lent: &mut [u8]) -> Answer
-    ensures { λ r. ⌜ (r, now (lent .exit)) ≡ halfCall rust raw (now (lent .entry)) ⌝ }
+pub fn decode_halfword(reading: u64, raw: u16, lent: &mut [u8]) -> Answer
+    ensures { λ r. ⌜ (r, now (lent .exit)) ≡ halfCall reading raw (now (lent .entry)) ⌝ }
 {
-    if is_record(lent.len()) {
-        match put_halfword(raw, lent, 0, 0) {
-            Put::Recorded(_, _) => Answer::Done, // the halfword's record
-            Put::Nothing => Answer::Refused(Refusal::NoOp),
-        }
-    } else {
-        Answer::Refused(Refusal::WrongBuffer)
+    if !op::reading_known(reading) {
+        return Answer::Refused(Refusal::BadGeometry);
+    }
+    if !is_record(lent.len()) {
+        return Answer::Refused(Refusal::WrongBuffer);
+    }
+    match put_halfword(reading, raw, lent, 0, 0) {
+        Put::Recorded(_, _) => Answer::Done, // the halfword's record
+        Put::Nothing => Answer::Refused(Refusal::NoOp),
     }
 }

@@ -3,8 +3,7 @@ ghost use mathlib.Core.Path.{_≡_};
 ghost use Prim.Native.Nat.{_+_, _≤_};
 ghost use lib.ListN.{length};
 ghost use Rattle.answer.specs.declared.Answer.the-variants.{Done};
-ghost use Rattle.word.specs.Word.{rustWord};
-ghost use Rattle.decode.specs.Readings.{rust};
+ghost use Rattle.reading.specs.Readings.{readingOf};
 ghost use Rattle.decode.specs.Call.{putOf};
 ghost use Rattle.form.specs.Forming.{stopsBlock, orFallback, ilenAt, opAt, opsFrom};
 ghost use Rattle.form.specs.Written.{Written};
@@ -33,11 +32,11 @@ fn stops_block(raw: u32) -> bool
 }
 
 // A word without an op that does not stop the block is kept as Fallback.
-fn fetch_word(raw: u32, lent: &mut [u8], place: usize, off: u16) -> Put
+fn fetch_word(reading: u64, raw: u32, lent: &mut [u8], place: usize, off: u16) -> Put
     requires { ⌜ place + 16 ≤ length (now lent) ⌝ }
-    ensures { λ r. ⌜ (r, now (lent .exit)) ≡ putOf (orFallback raw (rustWord raw)) 4 place off (now (lent .entry)) ⌝ }
+    ensures { λ r. ⌜ (r, now (lent .exit)) ≡ putOf (orFallback raw (readingOf reading .ofWord raw)) 4 place off (now (lent .entry)) ⌝ }
 {
-    let Put::Recorded(op, _) = decode::put_word(raw, lent, place, off) else {
+    let Put::Recorded(op, _) = decode::put_word(reading, raw, lent, place, off) else {
         if stops_block(raw) {
             return Put::Nothing;
         }
@@ -49,9 +48,9 @@ fn fetch_word(raw: u32, lent: &mut [u8], place: usize, off: u16) -> Put
 
 // Reads what stands at an offset of s, and writes its record to a place of the lent one. Each way says its length: the loop then need not wait for the
 // decoder's, which comes through memory.
-fn fetch(s: &[u8], at: usize, lent: &mut [u8], place: usize) -> Put
+fn fetch(reading: u64, s: &[u8], at: usize, lent: &mut [u8], place: usize) -> Put
     requires { ⌜ (at ≤ 4096) × (place + 16 ≤ length (now lent)) ⌝ }
-    ensures { λ r. ⌜ (r, now (lent .exit)) ≡ putOf (opAt rust (now (s .entry)) at) (ilenAt (now (s .entry)) at) place at (now (lent .entry)) ⌝ }
+    ensures { λ r. ⌜ (r, now (lent .exit)) ≡ putOf (opAt (readingOf reading) (now (s .entry)) at) (ilenAt (now (s .entry)) at) place at (now (lent .entry)) ⌝ }
 {
     if s.len() < at + 2 {
         return Put::Nothing;
@@ -61,24 +60,24 @@ fn fetch(s: &[u8], at: usize, lent: &mut [u8], place: usize) -> Put
         if s.len() < at + 4 {
             return Put::Nothing;
         }
-        return fetch_word(bits::word_at(s, at), lent, place, at as u16);
+        return fetch_word(reading, bits::word_at(s, at), lent, place, at as u16);
     }
-    let Put::Recorded(op, _) = decode::put_halfword(low, lent, place, at as u16) else {
+    let Put::Recorded(op, _) = decode::put_halfword(reading, low, lent, place, at as u16) else {
         return Put::Nothing; // no Fallback of two bytes
     };
     Put::Recorded(op, 2)
 }
 
 // The ops of the block whose bytes start s, each through its part of the lent record; its other bytes stay.
-fn form_ops(s: &[u8], lent: &mut [u8]) -> BlockRecord
+fn form_ops(reading: u64, s: &[u8], lent: &mut [u8]) -> BlockRecord
     requires { ⌜ (length (now s) ≤ 4096) × (length (now lent) ≡ 1040) ⌝ }
-    ensures { λ r. ⌜ Written (opsFrom rust (now (s .entry)) 64 0) (now (lent .entry)) (now (lent .exit)) (r .count) (r .len) ⌝ }
+    ensures { λ r. ⌜ Written (opsFrom (readingOf reading) (now (s .entry)) 64 0) (now (lent .entry)) (now (lent .exit)) (r .count) (r .len) ⌝ }
 {
     let mut count = 0;
     let mut at = 0;
     while count < BlockRecord::MAX_OPS {
         let place = BlockRecord::HEAD + count * OpRecord::LEN;
-        let Put::Recorded(op, ilen) = fetch(s, at, lent, place) else {
+        let Put::Recorded(op, ilen) = fetch(reading, s, at, lent, place) else {
             return BlockRecord { count, len: at };
         };
         count += 1;
@@ -91,11 +90,11 @@ fn form_ops(s: &[u8], lent: &mut [u8]) -> BlockRecord
 }
 
 // The block whose bytes start s. Without an op no byte is written.
-fn form_rest(s: &[u8], address: u64, lent: &mut [u8]) -> Answer
+fn form_rest(reading: u64, s: &[u8], address: u64, lent: &mut [u8]) -> Answer
     requires { ⌜ (length (now s) ≤ 4096) × (length (now lent) ≡ 1040) ⌝ }
-    ensures { λ r. ⌜ (r, now (lent .exit)) ≡ formedInto Done address (opsFrom rust (now (s .entry)) 64 0) (now (lent .entry)) ⌝ }
+    ensures { λ r. ⌜ (r, now (lent .exit)) ≡ formedInto Done address (opsFrom (readingOf reading) (now (s .entry)) 64 0) (now (lent .entry)) ⌝ }
 {
-    let block = form_ops(s, lent);
+    let block = form_ops(reading, s, lent);
     let count = block.count;
     let len = block.len;
     if count == 0 {
@@ -107,9 +106,12 @@ fn form_rest(s: &[u8], address: u64, lent: &mut [u8]) -> Answer
 }
 
 // Whether forming may begin, by the lengths of the memory and of the lent record.
-fn judge_form(len: u64, room: usize, base: u64, address: u64) -> Answer
-    ensures { λ r. ⌜ r ≡ formJudged len room base address ⌝ }
+fn judge_form(reading: u64, len: u64, room: usize, base: u64, address: u64) -> Answer
+    ensures { λ r. ⌜ r ≡ formJudged reading len room base address ⌝ }
 {
+    if !op::reading_known(reading) {
+        return Answer::Refused(Refusal::BadGeometry);
+    }
     if !block::good_memory(len, base) {
         return Answer::Refused(Refusal::BadGeometry);
     }
@@ -123,14 +125,14 @@ fn judge_form(len: u64, room: usize, base: u64, address: u64) -> Answer
 }
 
 // Forms the block at an address of the memory that starts at base, into the lent record of 1,040 bytes.
-pub fn form(memory: &[u8], base: u64, address: u64, lent: &mut [u8]) -> Answer
-    ensures { λ r. ⌜ (r, now (lent .exit)) ≡ formCall rust (now (memory .entry)) base address (now (lent .entry)) ⌝ }
+pub fn form(reading: u64, memory: &[u8], base: u64, address: u64, lent: &mut [u8]) -> Answer
+    ensures { λ r. ⌜ (r, now (lent .exit)) ≡ formCall reading (now (memory .entry)) base address (now (lent .entry)) ⌝ }
 {
-    match judge_form(memory.len() as u64, lent.len(), base, address) {
+    match judge_form(reading, memory.len() as u64, lent.len(), base, address) {
         Answer::Done => {
             let from = (address - base) as usize;
             let to = from + (block::PAGE - address % block::PAGE) as usize;
-            form_rest(&memory[from..to], address, lent)
+            form_rest(reading, &memory[from..to], address, lent)
         }
         Answer::Refused(why) => Answer::Refused(why),
     }

@@ -66,5 +66,5 @@ reportedBy (since g h) = record { examined = total (examined (slotOf g) pageOf (
 -- what all calls since the last accepted Make reported together, those before the start by the past p that the store had then
 unfoldable pub spent : Past → List Call → Lent → Report
 spent p [] l = reportedBy p
-spent p (make e base pages ∷ calls) l = ifAccepted (makeJudged e base pages (length (l .store))) (λ g. nothingDone) (spent p calls l)
+spent p (make reading e base pages ∷ calls) l = ifAccepted (makeJudged reading e base pages (length (l .store))) (λ g. nothingDone) (spent p calls l)
 spent p (uses c ∷ calls) l = summed (done c (run calls l) .0) (spent p calls l)

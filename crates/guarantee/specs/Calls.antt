@@ -22,8 +22,8 @@ pub data Use : Type 0 where
   write : ℕ → ℕ → ℕ → Use
 
 pub data Call : Type 0 where
-  -- e, base, pages
-  make : ℕ → ℕ → ℕ → Call
+  -- reading, e, base, pages
+  make : ℕ → ℕ → ℕ → ℕ → Call
   uses : Use → Call
 
 -- the two lent buffers
@@ -50,7 +50,7 @@ done (write a n v) l = wrote (writeCall (l .store) (l .memory) a n v)
 -- both after a list of calls, the newest first
 unfoldable pub run : List Call → Lent → Lent
 run [] l = l
-run (make e base pages ∷ calls) l = storing (run calls l) (makeCall e base pages (run calls l .store) .1)
+run (make reading e base pages ∷ calls) l = storing (run calls l) (makeCall reading e base pages (run calls l .store) .1)
 run (uses c ∷ calls) l = done c (run calls l) .1
 
 -- the part of the store that a lookup returns

@@ -7,7 +7,6 @@ use mathlib.Core.Option.{some}
 use lib.ListN.{length}
 use Rattle.answer.specs.declared.Answer.{Answer}
 use Rattle.answer.specs.declared.Answer.the-variants.{Done}
-use Rattle.op.specs.Reading.{Reading}
 use Rattle.block.specs.Memory.{pageBytes}
 use Rattle.form.specs.Call.{formCall}
 use Rattle.store.specs.Layout.{slotOf}
@@ -24,9 +23,9 @@ Former = Geometry → List ℕ → ℕ → Answer × List ℕ
 abbrev pub Local : Former → Type 0
 Local form = (g : Geometry) (m other : List ℕ) (a : ℕ) → length m ≡ length other → pageBytes m (g .base) a ≡ pageBytes other (g .base) a → form g m a ≡ form g other a
 
--- the Form call in any reading, into any lent record
-abbrev pub forming : Reading → List ℕ → Former
-forming reading lent g m a = formCall reading m (g .base) a lent
+-- the Form call in the store's reading, into any lent record
+abbrev pub forming : List ℕ → Former
+forming lent g m a = formCall (g .reading) m (g .base) a lent
 
 module _ (form : Former) where
   -- what a past shows is what forms from this memory
@@ -37,7 +36,7 @@ module _ (form : Former) where
   -- each accepted insertion of a list of calls held what formed from the memory that the calls before it left
   unfoldable pub Honest : Past → List Call → Lent → Type 0
   Honest p [] l = Unit {0}
-  Honest p (make e base pages ∷ calls) l = Honest p calls l
+  Honest p (make reading e base pages ∷ calls) l = Honest p calls l
   Honest p (uses c ∷ calls) l =
       ((g : Geometry) (h : List Event) → pastOf p calls l ≡ since g h → Every (OfInserted (λ a r. form g (run calls l .memory) a ≡ (Done, r))) (events (length (l .memory)) g c))
       × Honest p calls l

@@ -49,7 +49,7 @@ grown mLen c (since g h) = since g (events mLen g c ++ h)
 -- the past of a store of `sLen` bytes after calls, from the past that it had before them; an accepted Make begins anew
 unfoldable pub past : ℕ → ℕ → Past → List Call → Past
 past sLen mLen p [] = p
-past sLen mLen p (make e base pages ∷ calls) = ifAccepted (makeJudged e base pages sLen) (λ g. since g []) (past sLen mLen p calls)
+past sLen mLen p (make reading e base pages ∷ calls) = ifAccepted (makeJudged reading e base pages sLen) (λ g. since g []) (past sLen mLen p calls)
 past sLen mLen p (uses c ∷ calls) = grown mLen c (past sLen mLen p calls)
 
 -- by the lengths of the buffers, which no call changes

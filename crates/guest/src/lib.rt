@@ -1,7 +1,6 @@
 // Guest memory as a struct that borrows its bytes beside their base, where the Rust has a bus, with two readers and `decode_block` over it. (system_bus.rs; block.rs, `decode_block(bus, pc)`)
 // Each takes the struct apart, and the work is done on the slice and the base. The borrow checker covers no function over such a struct, so their proofs are walks by hand.
 ghost use mathlib.Core.Path.{_≡_};
-ghost use Rattle.decode.specs.Readings.{rust};
 ghost use Rattle.form.specs.Call.{formCall};
 ghost use Rattle.guest.specs.Guest.{readHalfword, readWord};
 use answer::Answer;
@@ -53,8 +52,13 @@ pub fn word<'a>(memory: GuestMemory<'a>, address: u64) -> Valued
 }
 
 // Forms the block at an address into the lent record, as `form::form` does.
-pub fn decode_block<'a>(memory: GuestMemory<'a>, address: u64, lent: &mut [u8]) -> Answer
-    ensures { λ r. ⌜ (r, now (lent .exit)) ≡ formCall rust (now (memory .entry .bytes)) (memory .entry .base) address (now (lent .entry)) ⌝ }
+pub fn decode_block<'a>(
+    reading: u64,
+    memory: GuestMemory<'a>,
+    address: u64,
+    lent: &mut [u8],
+) -> Answer
+    ensures { λ r. ⌜ (r, now (lent .exit)) ≡ formCall reading (now (memory .entry .bytes)) (memory .entry .base) address (now (lent .entry)) ⌝ }
 {
-    form::form(memory.bytes, memory.base, address, lent)
+    form::form(reading, memory.bytes, memory.base, address, lent)
 }

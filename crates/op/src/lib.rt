@@ -6,6 +6,7 @@ ghost use Prim.Native.Nat.{_+_, _≤_};
 ghost use lib.ListN.{length};
 ghost use Rattle.bits.specs.Bytes.{patch};
 ghost use Rattle.op.specs.Kinds.{aluNumber, kindAt, loadNumber, storeNumber, branchNumber};
+ghost use Rattle.op.specs.Reading.{readingKnown};
 ghost use Rattle.op.specs.Record.{bits64, fields, opFields, opBytes, opRecord};
 ghost use Rattle.op.specs.WellFormed.{limits, within, ilenKnown, opWellFormed};
 
@@ -511,4 +512,11 @@ pub fn op_well_formed(record: &[u8]) -> bool
         return within(record, limits_of(op));
     }
     false
+}
+
+// Whether a reading has this number: 0 is the Rust's, 1 the manual's.
+pub fn reading_known(reading: u64) -> bool
+    ensures { λ r. ⌜ r ≡ readingKnown reading ⌝ }
+{
+    reading <= 1
 }

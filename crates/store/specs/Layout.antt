@@ -7,12 +7,16 @@ use mathlib.Core.List.{List, [], _∷_, _++_}
 use lib.Dec.{eqb, leb}
 use lib.ListN.{length, getD}
 use Rattle.bits.specs.Bytes.{le, doublewordAt, patch}
+use Rattle.op.specs.Reading.{readingKnown}
 use Rattle.block.specs.Memory.{goodMemory, inMemory}
 use Rattle.store.specs.declared.Geometry.{Geometry}
 use Rattle.store.specs.declared.Opened.{Opened}
 use Rattle.store.specs.declared.Opened.the-variants.{Sound, NotAStore}
 
--- where e, the base, the page count and the generation stand in the header, and its length
+-- where the reading, e, the base, the page count and the generation stand in the header, and its length
+abbrev pub readingAt : ℕ
+readingAt = 3
+
 abbrev pub eAt : ℕ
 eAt = 6
 
@@ -28,16 +32,16 @@ generationAt = 24
 abbrev pub headerLen : ℕ
 headerLen = 32
 
--- "VBC", a zero, version 1, e, a zero
-abbrev pub signature : ℕ → List ℕ
-signature e = 86 ∷ 66 ∷ 67 ∷ 0 ∷ 1 ∷ 0 ∷ e ∷ 0 ∷ []
+-- "VBC", the reading, version 1, e, a zero
+abbrev pub signature : ℕ → ℕ → List ℕ
+signature reading e = 86 ∷ 66 ∷ 67 ∷ reading ∷ 1 ∷ 0 ∷ e ∷ 0 ∷ []
 
 abbrev pub header : Geometry → ℕ → List ℕ
-header g generation = signature (g .e) ++ (le 8 (g .base) ++ (le 8 (g .pages) ++ le 8 generation))
+header g generation = signature (g .reading) (g .e) ++ (le 8 (g .base) ++ (le 8 (g .pages) ++ le 8 generation))
 
--- e at most 14, and a memory within the bounds
-abbrev pub inBounds : ℕ → ℕ → ℕ → Bool
-inBounds e base pages = leb e 14 && goodMemory (4096 * pages) base
+-- a known reading, e at most 14, and a memory within the bounds
+abbrev pub inBounds : ℕ → ℕ → ℕ → ℕ → Bool
+inBounds reading e base pages = readingKnown reading && (leb e 14 && goodMemory (4096 * pages) base)
 
 -- where the places begin: behind the header, and eight bytes for each begun 64 pages
 abbrev pub front : ℕ → ℕ
@@ -47,16 +51,16 @@ abbrev pub storeLen : Geometry → ℕ
 storeLen g = front (g .pages) + g .stride * 2 ^ g .e
 
 -- the geometry that these numbers say; the places of version 1 have 1,040 bytes
-abbrev pub geometry : ℕ → ℕ → ℕ → Geometry
-geometry e base pages = record { e = e; base = base; pages = pages; stride = 1040 }
+abbrev pub geometry : ℕ → ℕ → ℕ → ℕ → Geometry
+geometry reading e base pages = record { reading = reading; e = e; base = base; pages = pages; stride = 1040 }
 
 abbrev pub stated : List ℕ → Geometry
-stated s = geometry (getD s eAt 0) (doublewordAt s baseAt) (doublewordAt s pagesAt)
+stated s = geometry (getD s readingAt 0) (getD s eAt 0) (doublewordAt s baseAt) (doublewordAt s pagesAt)
 
 unfoldable pub isStore : List ℕ → Bool
 isStore s =
-    leb headerLen (length s) && (eqb (doublewordAt s 0) (doublewordAt (signature (getD s eAt 0)) 0)
-    && (inBounds (getD s eAt 0) (doublewordAt s baseAt) (doublewordAt s pagesAt) && eqb (length s) (storeLen (stated s))))
+    leb headerLen (length s) && (eqb (doublewordAt s 0) (doublewordAt (signature (getD s readingAt 0) (getD s eAt 0)) 0)
+    && (inBounds (getD s readingAt 0) (getD s eAt 0) (doublewordAt s baseAt) (doublewordAt s pagesAt) && eqb (length s) (storeLen (stated s))))
 
 -- the header check
 unfoldable pub opened : List ℕ → Opened
@@ -64,6 +68,7 @@ opened s = cond (isStore s) (Sound (stated s)) NotAStore
 
 -- what the check leaves known; the calls' parts ask for it
 pub record Bounded (g : Geometry) : Type 0 where
+  pub known : g .reading ≤ 1
   pub few : g .e ≤ 14
   pub some : 1 ≤ g .pages
   pub most : g .pages ≤ 65536

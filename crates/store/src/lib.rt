@@ -11,7 +11,9 @@ use block::MAX_PAGES;
 use block::PAGE;
 use block::Slot;
 
-// Where e, the base, the page count and the generation stand in the header, and its length.
+// Where the reading, e, the base, the page count and the generation stand in the header, and its length.
+const READING_AT: usize = 3;
+
 const E_AT: usize = 6;
 
 const BASE_AT: usize = 8;
@@ -22,13 +24,16 @@ const GENERATION_AT: usize = 24;
 
 const HEADER: usize = 32;
 
-// The header's first eight bytes as a number: "VBC", a zero, version 1; then e, and a zero.
+// The header's first eight bytes as a number: "VBC", the reading, version 1, e, and a zero.
 const SIGNATURE: u64 = 0x1_0043_4256;
+
+const READING_UNIT: u64 = 0x100_0000;
 
 const E_UNIT: u64 = 0x1_0000_0000_0000;
 
 // What a store's header says, and the bytes of a place.
 pub struct Geometry {
+    pub reading: u64,
     pub e: u64,
     pub base: u64,
     pub pages: u64,
@@ -41,10 +46,13 @@ pub enum Opened {
     NotAStore,
 }
 
-// The bounds on e and memory.
-pub fn in_bounds(e: u64, base: u64, pages: u64) -> bool
-    ensures { λ r. ⌜ r ≡ inBounds e base pages ⌝ }
+// The bounds on the reading, e and memory.
+pub fn in_bounds(reading: u64, e: u64, base: u64, pages: u64) -> bool
+    ensures { λ r. ⌜ r ≡ inBounds reading e base pages ⌝ }
 {
+    if !op::reading_known(reading) {
+        return false;
+    }
     if 14 < e {
         return false;
     }
@@ -57,10 +65,11 @@ pub fn in_bounds(e: u64, base: u64, pages: u64) -> bool
 
 impl Geometry {
     // The geometry that these numbers say, in version 1.
-    pub fn new(e: u64, base: u64, pages: u64) -> Self
-        ensures { λ r. ⌜ r ≡ geometry e base pages ⌝ }
+    pub fn new(reading: u64, e: u64, base: u64, pages: u64) -> Self
+        ensures { λ r. ⌜ r ≡ geometry reading e base pages ⌝ }
     {
         Self {
+            reading,
             e,
             base,
             pages,
@@ -120,12 +129,13 @@ impl Geometry {
 // What the header's bytes say.
 fn stated(store: &[u8]) -> Geometry
     requires { ⌜ headerLen ≤ length (now store) ⌝ }
-    ensures { λ r. ⌜ (r ≡ stated (now (store .entry))) × (r .e ≤ 255) ⌝ }
+    ensures { λ r. ⌜ (r ≡ stated (now (store .entry))) × ((r .reading ≤ 255) × (r .e ≤ 255)) ⌝ }
 {
+    let reading = store[READING_AT] as u64;
     let e = store[E_AT] as u64;
     let base = bits::doubleword_at(store, BASE_AT);
     let pages = bits::doubleword_at(store, PAGES_AT);
-    Geometry::new(e, base, pages)
+    Geometry::new(reading, e, base, pages)
 }
 
 // The header check: signature, bounds and length. Nothing else in the store is trusted.
@@ -136,10 +146,10 @@ pub fn open(store: &[u8]) -> Opened
         return Opened::NotAStore;
     }
     let g = stated(store);
-    if bits::doubleword_at(store, 0) != SIGNATURE + g.e * E_UNIT {
+    if bits::doubleword_at(store, 0) != SIGNATURE + g.reading * READING_UNIT + g.e * E_UNIT {
         return Opened::NotAStore;
     }
-    if in_bounds(g.e, g.base, g.pages) {
+    if in_bounds(g.reading, g.e, g.base, g.pages) {
         if store.len() == g.store_len() {
             Opened::Sound(g)
         } else {
@@ -277,10 +287,14 @@ pub fn wipe(store: &mut [u8], g: Geometry)
 
 // The header of a new store.
 pub fn put_header(store: &mut [u8], g: Geometry)
-    requires { ⌜ (headerLen ≤ length (now store)) × (g .e ≤ 14) ⌝ }
+    requires { ⌜ (headerLen ≤ length (now store)) × ((g .reading ≤ 1) × (g .e ≤ 14)) ⌝ }
     ensures { λ _. ⌜ now (store .exit) ≡ patch (now (store .entry)) 0 (header g 1) ⌝ }
 {
-    bits::put_doubleword(store, 0, SIGNATURE + g.e * E_UNIT);
+    bits::put_doubleword(
+        store,
+        0,
+        SIGNATURE + g.reading * READING_UNIT + g.e * E_UNIT,
+    );
     bits::put_doubleword(store, BASE_AT, g.base);
     bits::put_doubleword(store, PAGES_AT, g.pages);
     bits::put_doubleword(store, GENERATION_AT, 1);

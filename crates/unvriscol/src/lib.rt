@@ -2,7 +2,6 @@
 // promises, by the same definition, and asks nothing of its caller. include/unvriscol.h declares them in this order.
 ghost use mathlib.Core.Path.{_≡_};
 ghost use Rattle.answer.specs.Answer.{answerNumber, valuedNumber, valuedValue};
-ghost use Rattle.decode.specs.Readings.{rust};
 ghost use Rattle.decode.specs.Call.{wordCall, halfCall};
 ghost use Rattle.alu.specs.Call.{aluCall};
 ghost use Rattle.form.specs.Call.{formCall};
@@ -41,19 +40,19 @@ fn report_seen(answer: ReportAnswer) -> NumberedReport
 
 // Decodes a word into the lent op record.
 #[no_mangle]
-pub extern "C" fn uv_decode_word(raw: u32, lent: &mut [u8]) -> u64
-    ensures { λ r. ⌜ (r, now (lent .exit)) ≡ seen answerNumber (wordCall rust raw (now (lent .entry))) ⌝ }
+pub extern "C" fn uv_decode_word(reading: u64, raw: u32, lent: &mut [u8]) -> u64
+    ensures { λ r. ⌜ (r, now (lent .exit)) ≡ seen answerNumber (wordCall reading raw (now (lent .entry))) ⌝ }
 {
-    let answer = decode::decode_word(raw, lent);
+    let answer = decode::decode_word(reading, raw, lent);
     answer.number()
 }
 
 // Decodes a halfword into the lent op record.
 #[no_mangle]
-pub extern "C" fn uv_decode_halfword(raw: u16, lent: &mut [u8]) -> u64
-    ensures { λ r. ⌜ (r, now (lent .exit)) ≡ seen answerNumber (halfCall rust raw (now (lent .entry))) ⌝ }
+pub extern "C" fn uv_decode_halfword(reading: u64, raw: u16, lent: &mut [u8]) -> u64
+    ensures { λ r. ⌜ (r, now (lent .exit)) ≡ seen answerNumber (halfCall reading raw (now (lent .entry))) ⌝ }
 {
-    let answer = decode::decode_halfword(raw, lent);
+    let answer = decode::decode_halfword(reading, raw, lent);
     answer.number()
 }
 
@@ -70,19 +69,25 @@ pub extern "C" fn uv_alu(kind: u64, lhs: u64, rhs: u64) -> Numbered
 
 // Forms the block at an address of guest memory into the lent block record.
 #[no_mangle]
-pub extern "C" fn uv_form(memory: &[u8], base: u64, address: u64, lent: &mut [u8]) -> u64
-    ensures { λ r. ⌜ (r, now (lent .exit)) ≡ seen answerNumber (formCall rust (now (memory .entry)) base address (now (lent .entry))) ⌝ }
+pub extern "C" fn uv_form(
+    reading: u64,
+    memory: &[u8],
+    base: u64,
+    address: u64,
+    lent: &mut [u8],
+) -> u64
+    ensures { λ r. ⌜ (r, now (lent .exit)) ≡ seen answerNumber (formCall reading (now (memory .entry)) base address (now (lent .entry))) ⌝ }
 {
-    let answer = form::form(memory, base, address, lent);
+    let answer = form::form(reading, memory, base, address, lent);
     answer.number()
 }
 
 // Makes a new store of the lent bytes.
 #[no_mangle]
-pub extern "C" fn uv_make(store: &mut [u8], e: u64, base: u64, pages: u64) -> u64
-    ensures { λ r. ⌜ (r, now (store .exit)) ≡ seen answerNumber (makeCall e base pages (now (store .entry))) ⌝ }
+pub extern "C" fn uv_make(store: &mut [u8], reading: u64, e: u64, base: u64, pages: u64) -> u64
+    ensures { λ r. ⌜ (r, now (store .exit)) ≡ seen answerNumber (makeCall reading e base pages (now (store .entry))) ⌝ }
 {
-    let answer = cache::make(store, e, base, pages);
+    let answer = cache::make(store, reading, e, base, pages);
     answer.number()
 }
 

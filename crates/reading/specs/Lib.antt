@@ -1,0 +1,3 @@
+-- The two readings, by their numbers.
+pub mod Readings
+pub mod Apart
