@@ -11,7 +11,8 @@ use Rattle.block.specs.WellFormed.{jumps}
 use Rattle.op.specs.Record.{opFields}
 use Rattle.op.specs.declared.Decoded.{Decoded}
 use Rattle.op.specs.declared.Decoded.the-variants.{Some, None}
-use Rattle.decode.specs.Readings.{rust}
+use Rattle.op.specs.Reading.{Reading}
+use Rattle.reading.specs.Readings.{readingOf}
 use Rattle.form.specs.Forming.{ilenAt, opAt, opsFrom}
 use Rattle.form.specs.Written.{Written}
 use Rattle.form.proofs.Kept.{Within, within}
