@@ -25,7 +25,7 @@ use Rattle.block.specs.WellFormed.{allZero, jumps, opsWellFormed, wellFormed}
 use Rattle.block.proofs.Places.{GoodMemory, good-memory, held}
 use Rattle.block.proofs.Records.{walk-record, record-well}
 use Rattle.block.proofs.Zeros.{zero-all}
-use Rattle.decode.specs.Readings.{rust}
+use Rattle.reading.specs.Readings.{rust, manual, readingOf}
 use Rattle.form.specs.ProperReading.{ProperReading}
 use Rattle.form.specs.Forming.{ilenAt, opAt, andThen, opsFrom, formed}
 use Rattle.form.proofs.Kept.{op-by, Within, within}
