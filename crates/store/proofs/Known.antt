@@ -12,6 +12,7 @@ use lib.Pow.{pow-pos, pow-mono, shl-exact}
 use native.Mathlib.Decide.{decLt}
 use borrow.Author.Tests.{leb-true, eqb-true, le-leb, lt-ltb, le-ltb, eq-eqb}
 use Rattle.bits.specs.Bytes.{doublewordAt}
+use Rattle.op.specs.Reading.{readingKnown}
 use Rattle.block.proofs.Places as block
 use Rattle.bits.proofs.Tests.{and-both, not-true}
 use Rattle.store.specs.Layout.{signature, inBounds, front, storeLen, geometry, stated, isStore, opened, Bounded, Fitting, holds, memoryPage, slotOf, placeAt}
@@ -26,14 +27,16 @@ shl-one w e h = shl-exact 1 e w (omega arith) (omega arith) ∙ one-mul (2 ^ e)
 pub after : (z i j : ℕ) → i < j → z * i + z ≤ z * j
 after z i j h = let w : z * suc i ≤ z * j = mul-le-mul-left z h in omega (arith, rw mul-suc at w)
 
-pub signature-is : (e : ℕ) → doublewordAt (signature e) 0 ≡ 0x1_0043_4256 + e * 0x1_0000_0000_0000
-signature-is e = omega arith
+pub signature-is : (reading e : ℕ) → doublewordAt (signature reading e) 0 ≡ 0x1_0043_4256 + reading * 0x100_0000 + e * 0x1_0000_0000_0000
+signature-is reading e = omega arith
 
-pub bounds-are : (e base pages : ℕ) → inBounds e base pages ≡ true → Bounded (geometry e base pages)
-bounds-are e base pages h =
-    let a = and-both (leb e 14) _ h in
+pub bounds-are : (reading e base pages : ℕ) → inBounds reading e base pages ≡ true → Bounded (geometry reading e base pages)
+bounds-are reading e base pages h =
+    let r = and-both (readingKnown reading) _ h in
+    let a = and-both (leb e 14) _ (r .1) in
     let memory = block.good-memory {len = 4096 * pages} {base = base} (a .1) in
     record {
+      known = leb-true _ _ (r .0);
       few = leb-true _ _ (a .0);
       some = omega (arith, memory .least);
       most = omega (arith, memory .most);
@@ -43,19 +46,22 @@ bounds-are e base pages h =
       small = omega arith;
     }
 
+abbrev pub within : Geometry → Bool
+within g = inBounds (g .reading) (g .e) (g .base) (g .pages)
+
 -- the four tests of the header check
 pub record Header (s : List ℕ) : Type 0 where
   pub long : 32 ≤ length s
-  pub signed : doublewordAt s 0 ≡ doublewordAt (signature (getD s 6 0)) 0
-  pub bounded : inBounds (getD s 6 0) (doublewordAt s 8) (doublewordAt s 16) ≡ true
+  pub signed : doublewordAt s 0 ≡ doublewordAt (signature (getD s 3 0) (getD s 6 0)) 0
+  pub bounded : within (stated s) ≡ true
   pub exact : length s ≡ storeLen (stated s)
 
 pub header-is : (s : List ℕ) → isStore s ≡ true → Header s
 unfolding isStore
 header-is s h =
     let a = and-both (leb 32 (length s)) _ h in
-    let b = and-both (eqb (doublewordAt s 0) (doublewordAt (signature (getD s 6 0)) 0)) _ (a .1) in
-    let c = and-both (inBounds (getD s 6 0) (doublewordAt s 8) (doublewordAt s 16)) _ (b .1) in
+    let b = and-both (eqb (doublewordAt s 0) (doublewordAt (signature (getD s 3 0) (getD s 6 0)) 0)) _ (a .1) in
+    let c = and-both (within (stated s)) _ (b .1) in
     record { long = leb-true _ _ (a .0); signed = eqb-true _ _ (b .0); bounded = c .0; exact = eqb-true _ _ (c .1) }
 
 pub is-header : (s : List ℕ) → Header s → isStore s ≡ true
@@ -84,7 +90,7 @@ opened-says s g h = go (isStore s) refl h
     go true e k =
         let q : stated s ≡ g = cc in
         let w = header-is s e in
-        subst (Known s) q (record { fitting = record { bounds = bounds-are _ _ _ (w .bounded); exact = w .exact }; head = w; is = refl })
+        subst (Known s) q (record { fitting = record { bounds = bounds-are _ _ _ _ (w .bounded); exact = w .exact }; head = w; is = refl })
     go false e k = absurd (let z : _≡_ {A = ℕ} 0 1 = cc in omega arith)
 
 pub slot-lt : (g : Geometry) (a : ℕ) → slotOf g a < 2 ^ g .e

@@ -50,9 +50,6 @@ pub enum Opened {
 pub fn in_bounds(reading: u64, e: u64, base: u64, pages: u64) -> bool
     ensures { λ r. ⌜ r ≡ inBounds reading e base pages ⌝ }
 {
-    if !op::reading_known(reading) {
-        return false;
-    }
     if 14 < e {
         return false;
     }
@@ -60,7 +57,7 @@ pub fn in_bounds(reading: u64, e: u64, base: u64, pages: u64) -> bool
     if MAX_PAGES <= std::num::wrapping_sub_u64(pages, 1) {
         return false;
     }
-    block::good_memory(PAGE * pages, base)
+    op::reading_known(reading) & block::good_memory(PAGE * pages, base)
 }
 
 impl Geometry {

@@ -15,10 +15,13 @@ in-bounds-spec =
     (tie.spec
     (λ c.
     let a = c .before .args in
-    sym (not-true _ (λ h. omega (arith, bounds-are (a .e) (a .base) (a .pages) h))))
+    sym (not-true _ (λ h. omega (arith, bounds-are (a .reading) (a .e) (a .base) (a .pages) h))))
     (λ c κs. search needs)
     (λ c.
     let a = c .before .before .before .args in
-    sym (not-true _ (λ h. omega (arith, c .before .wrapping-sub-u64 .ensures, bounds-are (a .e) (a .base) (a .pages) h))))
-    (λ c. omega (arith, c .before .wrapping-sub-u64 .ensures)) (λ c κs. search needs)
-    (λ c. rw (le-leb (c .before .before .before .before .args .e) 14 (c .before .before .before .if1 .left)) (c .good-memory .ensures)))
+    sym (not-true _ (λ h. omega (arith, c .before .wrapping-sub-u64 .ensures, bounds-are (a .reading) (a .e) (a .base) (a .pages) h))))
+    (λ c κs. search needs) (λ c. omega (arith, c .before .before .wrapping-sub-u64 .ensures)) (λ c κs. search needs)
+    (λ c.
+    let known = c .before in
+    let small = known .before .before .before in
+    rw (known .reading-known .ensures, c .good-memory .ensures, le-leb (small .before .args .e) 14 (small .if1 .left))))

@@ -2,22 +2,19 @@
 -- Assumes nothing.
 use native.Mathlib.Omega.{arith}
 use mathlib.Core.Path.{_≡_, sym, _∙_, ap}
-use mathlib.Core.Bool.{Bool, true}
+use mathlib.Core.Bool.{true}
 use Prim.Native.Nat.{_+_, _*_}
 use Rattle.bits.proofs.Tests.{true-false}
-use Rattle.store.specs.Layout.{inBounds, storeLen, stated}
+use Rattle.store.specs.Layout.{storeLen, stated}
 use Rattle.store.specs.declared.Geometry.{Geometry}
 use Rattle.store.specs.declared.Opened.the-variants.{Sound}
-use Rattle.store.proofs.Known.{bounds-are, opened-sound, opened-not, signature-is}
+use Rattle.store.proofs.Known.{bounds-are, within, opened-sound, opened-not, signature-is}
 use borrow.Author.Needs.{needs}
 use Rattle.store.proofs.open.Statement.{statement}
 use Rattle.store.proofs.open.Tie as tie
 
-abbrev within : Geometry → Bool
-within g = inBounds (g .e) (g .base) (g .pages)
-
-bounded : (c : tie.Then3) → within (stated (c .before .before .before .before .before .before .before .before .args .store .now)) ≡ true
-bounded c = ap within (sym (c .before .before .before .before .before .stated .ensures .0)) ∙ sym (c .before .in-bounds .ensures) ∙ c .if3 .taken
+bounded : (c : tie.Then3) → within (stated (c .before .before .before .before .before .before .before .before .before .args .store .now)) ≡ true
+bounded c = ap within (sym (c .before .before .before .before .before .before .stated .ensures .0)) ∙ sym (c .before .in-bounds .ensures) ∙ c .if3 .taken
 
 pub open-spec : {M : Type 1} → statement M
 open-spec =
@@ -26,23 +23,26 @@ open-spec =
     (λ c. sym (opened-not _ (λ h. omega (arith, h .long))))
     (λ c κs. search needs) (λ c κs. search needs)
     (λ c. omega (arith, c .before .before .stated .ensures .1)) (λ c. omega (arith, c .before .before .stated .ensures .1))
+    (λ c. omega (arith, c .before .before .before .stated .ensures .1)) (λ c. omega (arith, c .before .before .before .stated .ensures .1))
     (λ c.
-    let e = ap (λ (g : Geometry). g .e) (c .before .before .before .stated .ensures .0) in
-    sym (opened-not _ (λ h. omega (arith, e, c .before .before .doubleword-at .ensures, h .signed ∙ signature-is _))))
+    let same = c .before .before .before .before .stated .ensures .0 in
+    let r = ap (λ (g : Geometry). g .reading) same in
+    let e = ap (λ (g : Geometry). g .e) same in
+    sym (opened-not _ (λ h. omega (arith, r, e, c .before .before .before .doubleword-at .ensures, h .signed ∙ signature-is _ _))))
     (λ c κs. search needs)
-    (λ c κs. rw (c .before .before .before .before .before .stated .ensures .0) (bounds-are _ _ _ (bounded c)))
+    (λ c κs. rw (c .before .before .before .before .before .before .stated .ensures .0) (bounds-are _ _ _ _ (bounded c)))
     (λ c.
     let test = c .before .before in
-    let word = test .before .before .before .before in
+    let word = test .before .before .before .before .before in
     let same = word .before .stated .ensures .0 in
     ap Sound same
     ∙ sym (opened-sound (word .before .before .before .before .args .store .now) (record {
       long = omega arith;
-      signed = sym (word .doubleword-at .ensures) ∙ test .before .before .if2 .left ∙ ap (λ (g : Geometry). 0x1_0043_4256 + g .e * 0x1_0000_0000_0000) same ∙ sym (signature-is _);
+      signed = sym (word .doubleword-at .ensures) ∙ test .before .before .if2 .left ∙ ap (λ (g : Geometry). 0x1_0043_4256 + g .reading * 0x100_0000 + g .e * 0x1_0000_0000_0000) same ∙ sym (signature-is _ _);
       bounded = bounded test;
       exact = omega (arith, c .before .store-len .ensures ∙ ap storeLen same);
     })))
     (λ c.
-    let same = c .before .before .before .before .before .before .before .stated .ensures .0 in
+    let same = c .before .before .before .before .before .before .before .before .stated .ensures .0 in
     sym (opened-not _ (λ h. omega (arith, h .exact ∙ ap storeLen (sym same) ∙ sym (c .before .store-len .ensures)))))
-    (λ c. sym (opened-not _ (λ h. true-false (c .before .in-bounds .ensures ∙ ap within (c .before .before .before .before .before .stated .ensures .0) ∙ h .bounded) (c .if3 .left)))))
+    (λ c. sym (opened-not _ (λ h. true-false (c .before .in-bounds .ensures ∙ ap within (c .before .before .before .before .before .before .stated .ensures .0) ∙ h .bounded) (c .if3 .left)))))
