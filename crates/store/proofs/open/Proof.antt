@@ -3,7 +3,6 @@
 use native.Mathlib.Omega.{arith}
 use mathlib.Core.Path.{_≡_, sym, _∙_, ap}
 use mathlib.Core.Bool.{true}
-use Prim.Native.Nat.{_+_, _*_}
 use Rattle.bits.proofs.Tests.{true-false}
 use Rattle.store.specs.Layout.{storeLen, stated}
 use Rattle.store.specs.declared.Geometry.{Geometry}
@@ -35,10 +34,11 @@ open-spec =
     let test = c .before .before in
     let word = test .before .before .before .before .before in
     let same = word .before .stated .ensures .0 in
+    let s = word .before .before .before .before .args .store .now in
     ap Sound same
-    ∙ sym (opened-sound (word .before .before .before .before .args .store .now) (record {
+    ∙ sym (opened-sound s (record {
       long = omega arith;
-      signed = sym (word .doubleword-at .ensures) ∙ test .before .before .if2 .left ∙ ap (λ (g : Geometry). 0x1_0043_4256 + g .reading * 0x100_0000 + g .e * 0x1_0000_0000_0000) same ∙ sym (signature-is _ _);
+      signed = omega (arith, ap (λ (g : Geometry). g .reading) same, ap (λ (g : Geometry). g .e) same, word .doubleword-at .ensures, signature-is (stated s .reading) (stated s .e));
       bounded = bounded test;
       exact = omega (arith, c .before .store-len .ensures ∙ ap storeLen same);
     })))
