@@ -8,7 +8,7 @@ use lib.ListN.{length, getD}
 use borrow.Author.Tests.{eq-eqb}
 use Rattle.answer.specs.declared.Answer.the-variants.{Done}
 use Rattle.reading.specs.Readings.{readingOf}
-use Rattle.block.specs.Memory.{inMemory}
+use Rattle.block.specs.Memory.{inMemory, pageBytes}
 use Rattle.block.specs.WellFormed.{wellFormed}
 use Rattle.block.proofs.Head.{says}
 use Rattle.form.specs.Call.{formCall}
@@ -29,9 +29,12 @@ use Rattle.guarantee.specs.Stands.{Follows}
 use Rattle.guarantee.specs.Honest.{Local, forming, Fresh, Honest}
 use Rattle.guarantee.proofs.Fresh.{never-stale}
 
-pub forming-local : (lent : List ℕ) → Local (forming lent)
+form-local : (reading : ℕ) (lent m other : List ℕ) (base a : ℕ) → length m ≡ length other → pageBytes m base a ≡ pageBytes other base a → formCall reading m base a lent ≡ formCall reading other base a lent
 unfolding formCall
-forming-local lent g m other a long same = rw (long, same-page (readingOf (g .reading)) m other (g .base) a same)
+form-local reading lent m other base a long same = rw (long, same-page (readingOf reading) m other base a same)
+
+pub forming-local : (lent : List ℕ) → Local (forming lent)
+forming-local lent g m other a long same = form-local _ lent m other (g .base) a long same
 
 -- never stale, of the Form call itself, in the store's reading
 pub never-stale-formed : (lent : List ℕ) (p : Past) (l : Lent) → Follows p (l .store) → Fresh (forming lent) p (l .memory) → (calls : List Call) → Honest (forming lent) p calls l → (g : Geometry) (h : List Event) → pastOf p calls l ≡ since g h

@@ -18,13 +18,15 @@ use Rattle.bits.specs.Bits.{bit}
 use Rattle.bits.proofs.Bit.{bit-above}
 use Rattle.bits.specs.Bytes.{le, part, patch, doublewordAt}
 use Rattle.bits.proofs.Bytes.{length-le, length-patch, length-part, getD-part, part-same, part-before, part-behind, getD-before, getD-behind, doubleword-le, doubleword-same, doubleword-before}
-use Rattle.store.specs.Layout.{signature, header, inBounds, front, storeLen, geometry, stated, isStore, opened, Bounded, Fitting, placeAt, generationOf, bumped}
+use Rattle.bits.proofs.Tests.{and-both}
+use Rattle.op.specs.Reading.{readingKnown}
+use Rattle.store.specs.Layout.{signature, header, sized, inBounds, front, storeLen, geometry, stated, isStore, opened, Bounded, Fitting, placeAt, generationOf, bumped}
 use Rattle.store.specs.Places.{pageBit, placeIn, putBit, withBit, emptyPlace, vacated, eachPlace, copies, blank}
 use Rattle.store.specs.declared.Geometry.{Geometry}
 use Rattle.store.specs.declared.Opened.{Opened}
 use Rattle.store.specs.declared.Opened.the-variants.{Sound, NotAStore}
 use Rattle.store.proofs.Bits.{bit-with}
-use Rattle.store.proofs.Known.{after, bounds-are, within, Header, opened-sound, place-fits, front-fits, bit-fits}
+use Rattle.store.proofs.Known.{after, bounds-are, Header, opened-sound, place-fits, front-fits, bit-fits}
 use Rattle.store.proofs.Places.{empty-made, length-empty, length-vacated, length-copies}
 
 -- eight bytes that are the same say the same number
@@ -343,8 +345,8 @@ module _ (reading e base pages : ℕ) (w : inBounds reading e base pages ≡ tru
       head : Header made
       head = record {
         long = let z = front-fits g made fits in omega arith;
-        signed = refl;
-        bounded = ap within is ∙ w;
+        signed = (b .known, refl);
+        bounded = ap₂ (sized e) base-is pages-is ∙ and-both (readingKnown reading) _ w .1;
         exact = fits .exact ∙ ap storeLen (sym is);
       }
 

@@ -2,18 +2,32 @@
 -- Assumes nothing.
 use native.Mathlib.Omega.{arith}
 use mathlib.Core.Path.{_≡_, sym, _∙_, ap}
-use mathlib.Core.Bool.{true}
+use mathlib.Core.Bool.{Bool, true}
+use Prim.Native.Nat.{ℕ, _+_, _*_}
 use Rattle.bits.proofs.Tests.{true-false}
-use Rattle.store.specs.Layout.{storeLen, stated}
+use Rattle.store.specs.Layout.{sized, storeLen, stated}
 use Rattle.store.specs.declared.Geometry.{Geometry}
 use Rattle.store.specs.declared.Opened.the-variants.{Sound}
-use Rattle.store.proofs.Known.{bounds-are, within, opened-sound, opened-not, signature-is}
+use Rattle.store.proofs.Known.{Signed, sized-are, unread, unread-is, unread-says, opened-sound, opened-not, signature-is}
 use borrow.Author.Needs.{needs}
 use Rattle.store.proofs.open.Statement.{statement}
 use Rattle.store.proofs.open.Tie as tie
 
-bounded : (c : tie.Then3) → within (stated (c .before .before .before .before .before .before .before .before .before .args .store .now)) ≡ true
-bounded c = ap within (sym (c .before .before .before .before .before .before .stated .ensures .0)) ∙ sym (c .before .in-bounds .ensures) ∙ c .if3 .taken
+abbrev expected : Geometry → ℕ
+expected g = 0x1_0043_4256 + g .e * 0x1_0000_0000_0000
+
+-- what the test of the first eight bytes leaves known
+signed : (c : tie.Else2) → Signed (c .before .before .before .before .before .before .args .store .now)
+signed c =
+    let word = c .before .before in
+    let bytes = word .before .before .before in
+    unread-says (bytes .before .args .store .now) (λ i. omega (arith, bytes .shared-slice-known .given i)) (ap unread (sym (word .doubleword-at .ensures)) ∙ c .if2 .left ∙ ap expected (word .before .stated .ensures .0))
+
+abbrev within : Geometry → Bool
+within g = sized (g .e) (g .base) (g .pages)
+
+bounded : (c : tie.Then3) → within (stated (c .before .before .before .before .before .before .before .before .args .store .now)) ≡ true
+bounded c = ap within (sym (c .before .before .before .before .before .stated .ensures .0)) ∙ sym (c .before .sized .ensures) ∙ c .if3 .taken
 
 pub open-spec : {M : Type 1} → statement M
 open-spec =
@@ -21,28 +35,25 @@ open-spec =
     (tie.spec
     (λ c. sym (opened-not _ (λ h. omega (arith, h .long))))
     (λ c κs. search needs) (λ c κs. search needs)
+    (λ c. omega arith) (λ c. omega arith)
     (λ c. omega (arith, c .before .before .stated .ensures .1)) (λ c. omega (arith, c .before .before .stated .ensures .1))
-    (λ c. omega (arith, c .before .before .before .stated .ensures .1)) (λ c. omega (arith, c .before .before .before .stated .ensures .1))
     (λ c.
-    let same = c .before .before .before .before .stated .ensures .0 in
-    let r = ap (λ (g : Geometry). g .reading) same in
-    let e = ap (λ (g : Geometry). g .e) same in
-    sym (opened-not _ (λ h. omega (arith, r, e, c .before .before .before .doubleword-at .ensures, h .signed ∙ signature-is _ _))))
+    let word = c .before .before in
+    sym (opened-not _ (λ h. c .if2 .taken (ap unread (word .doubleword-at .ensures ∙ h .signed .1 ∙ signature-is _ _) ∙ unread-is _ _ (h .signed .0) ∙ ap expected (sym (word .before .stated .ensures .0))))))
     (λ c κs. search needs)
-    (λ c κs. rw (c .before .before .before .before .before .before .stated .ensures .0) (bounds-are _ _ _ _ (bounded c)))
+    (λ c κs. rw (c .before .before .before .before .before .stated .ensures .0) (sized-are _ _ _ _ (signed (c .before .before) .0) (bounded c)))
     (λ c.
     let test = c .before .before in
-    let word = test .before .before .before .before .before in
-    let same = word .before .stated .ensures .0 in
-    let s = word .before .before .before .before .args .store .now in
+    let start = test .before .before .before .before .before in
+    let same = start .stated .ensures .0 in
     ap Sound same
-    ∙ sym (opened-sound s (record {
+    ∙ sym (opened-sound (start .before .before .before .args .store .now) (record {
       long = omega arith;
-      signed = omega (arith, ap (λ (g : Geometry). g .reading) same, ap (λ (g : Geometry). g .e) same, word .doubleword-at .ensures, signature-is (stated s .reading) (stated s .e));
+      signed = signed (test .before .before);
       bounded = bounded test;
       exact = omega (arith, c .before .store-len .ensures ∙ ap storeLen same);
     })))
     (λ c.
-    let same = c .before .before .before .before .before .before .before .before .stated .ensures .0 in
+    let same = c .before .before .before .before .before .before .before .stated .ensures .0 in
     sym (opened-not _ (λ h. omega (arith, h .exact ∙ ap storeLen (sym same) ∙ sym (c .before .store-len .ensures)))))
-    (λ c. sym (opened-not _ (λ h. true-false (c .before .in-bounds .ensures ∙ ap within (c .before .before .before .before .before .before .stated .ensures .0) ∙ h .bounded) (c .if3 .left)))))
+    (λ c. sym (opened-not _ (λ h. true-false (c .before .sized .ensures ∙ ap within (c .before .before .before .before .before .stated .ensures .0) ∙ h .bounded) (c .if3 .left)))))

@@ -14,5 +14,4 @@ stated-spec =
     (λ c κs. search needs) (λ c κs. search needs) (λ c κs. search needs)
     (λ c.
     let two = c .before in
-    let e = two .before .before in
-    (c .new .ensures ∙ rw (two .before .doubleword-at .ensures, two .doubleword-at2 .ensures), rw (c .new .ensures) (omega (arith, e .before .shared-slice-known2 .given 3), omega (arith, e .shared-slice-known3 .given 6)))))
+    (c .new .ensures ∙ rw (two .before .doubleword-at .ensures, two .doubleword-at2 .ensures), rw (c .new .ensures) (omega (arith, two .before .before .shared-slice-known3 .given 6)))))
