@@ -36,7 +36,7 @@ Signed s = (getD s 3 0 ≤ 1) × (doublewordAt s 0 ≡ doublewordAt (signature (
 
 -- the header's first number without the lowest bit of byte 3: where that bit was the reading, no other is left of the byte
 abbrev pub unread : ℕ → ℕ
-unread word = word - word / 0x100_0000 % 2 * 0x100_0000
+unread first = first - first / 0x100_0000 % 2 * 0x100_0000
 
 pub unread-is : (reading e : ℕ) → reading ≤ 1 → unread (0x1_0043_4256 + reading * 0x100_0000 + e * 0x1_0000_0000_0000) ≡ 0x1_0043_4256 + e * 0x1_0000_0000_0000
 unread-is reading e h = omega arith

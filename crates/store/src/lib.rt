@@ -4,7 +4,7 @@ ghost use mathlib.Core.Bool.{true, cond};
 ghost use mathlib.Core.List.{_++_};
 ghost use Prim.Native.Nat.{_+_, _-_, _*_, _/_, _^_, _≤_, _<_};
 ghost use lib.ListN.{length, take, replicate};
-ghost use Rattle.bits.specs.Bytes.{part, patch};
+ghost use Rattle.bits.specs.Bytes.{doublewordAt, part, patch};
 ghost use Rattle.store.specs.Layout.{headerLen, header, sized, inBounds, front, storeLen, geometry, stated, opened, Bounded, Fitting, holds, memoryPage, slotOf, placeAt, generationOf, bumped};
 ghost use Rattle.store.specs.Places.{pageBit, putBit, withBit, emptyPlace, inPage, emptied, vacated, eachPlace, placesIn, blank};
 use block::MAX_PAGES;
@@ -142,6 +142,14 @@ fn stated(store: &[u8]) -> Geometry
     Geometry::new(reading, e, base, pages)
 }
 
+// The header's first eight bytes; read here, they are one load.
+fn first_number(store: &[u8]) -> u64
+    requires { ⌜ headerLen ≤ length (now store) ⌝ }
+    ensures { λ r. ⌜ r ≡ doublewordAt (now (store .entry)) 0 ⌝ }
+{
+    bits::doubleword_at(store, 0)
+}
+
 // The header check: signature, bounds and length. Nothing else in the store is trusted.
 pub fn open(store: &[u8]) -> Opened
     ensures { λ r. ⌜ r ≡ opened (now (store .entry)) ⌝ }
@@ -150,9 +158,9 @@ pub fn open(store: &[u8]) -> Opened
         return Opened::NotAStore;
     }
     let g = stated(store);
-    let word = bits::doubleword_at(store, 0);
+    let first = first_number(store);
     // Without its lowest bit byte 3 must be 0: that is the bound on the reading.
-    if word - word / READING_UNIT % 2 * READING_UNIT != SIGNATURE + g.e * E_UNIT {
+    if first - first / READING_UNIT % 2 * READING_UNIT != SIGNATURE + g.e * E_UNIT {
         return Opened::NotAStore;
     }
     if sized(g.e, g.base, g.pages) {

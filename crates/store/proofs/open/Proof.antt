@@ -21,7 +21,7 @@ signed : (c : tie.Else2) → Signed (c .before .before .before .before .before .
 signed c =
     let word = c .before .before in
     let bytes = word .before .before .before in
-    unread-says (bytes .before .args .store .now) (λ i. omega (arith, bytes .shared-slice-known .given i)) (ap unread (sym (word .doubleword-at .ensures)) ∙ c .if2 .left ∙ ap expected (word .before .stated .ensures .0))
+    unread-says (bytes .before .args .store .now) (λ i. omega (arith, bytes .shared-slice-known .given i)) (ap unread (sym (word .first-number .ensures)) ∙ c .if2 .left ∙ ap expected (word .before .stated .ensures .0))
 
 abbrev within : Geometry → Bool
 within g = sized (g .e) (g .base) (g .pages)
@@ -39,7 +39,7 @@ open-spec =
     (λ c. omega (arith, c .before .before .stated .ensures .1)) (λ c. omega (arith, c .before .before .stated .ensures .1))
     (λ c.
     let word = c .before .before in
-    sym (opened-not _ (λ h. c .if2 .taken (ap unread (word .doubleword-at .ensures ∙ h .signed .1 ∙ signature-is _ _) ∙ unread-is _ _ (h .signed .0) ∙ ap expected (sym (word .before .stated .ensures .0))))))
+    sym (opened-not _ (λ h. c .if2 .taken (ap unread (word .first-number .ensures ∙ h .signed .1 ∙ signature-is _ _) ∙ unread-is _ _ (h .signed .0) ∙ ap expected (sym (word .before .stated .ensures .0))))))
     (λ c κs. search needs)
     (λ c κs. rw (c .before .before .before .before .before .stated .ensures .0) (sized-are _ _ _ _ (signed (c .before .before) .0) (bounded c)))
     (λ c.
