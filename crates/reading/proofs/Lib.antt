@@ -1,2 +1,3 @@
--- Where the readings part, by the fields that the decoder looks at.
-pub mod Parted
+-- Where the readings part, by the fields that the decoder looks at; and what either reading gives.
+mod Parted
+pub mod Proper
