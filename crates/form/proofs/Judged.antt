@@ -38,7 +38,7 @@ begun reading len room base address e =
     by true false b c e = (refl, cc, cc, cc)
     by false a b c e = (cc, cc, cc, cc)
 
-not-done : (why : Refusal) → Refused why ≡ Done → ⊥
+pub not-done : (why : Refusal) → Refused why ≡ Done → ⊥
 not-done why e = let no : suc zero ≡ zero = cc in omega arith
 
 module _ (address : ℕ) (lent rec : List ℕ) where
