@@ -15,18 +15,22 @@ use Rattle.form.specs.Call.{formCall}
 use Rattle.form.proofs.Judged.{formed-done}
 use Rattle.form.proofs.Page.{same-page}
 use Rattle.form.proofs.FormedWell.{reading-proper, formed-well}
-use Rattle.store.specs.Layout.{holds}
+use Rattle.store.specs.Layout.{stated, holds}
 use Rattle.store.specs.Places.{recordIn}
 use Rattle.store.specs.declared.Geometry.{Geometry}
 use Rattle.store.specs.declared.Opened.the-variants.{Sound}
 use Rattle.cache.specs.Answers.{lookupNumber}
-use Rattle.cache.specs.Calls.{lookupCall, insertJudged}
+use Rattle.store.proofs.Known.{opened-says}
+use Rattle.cache.specs.Calls.{lookupCall, insertJudged, insertCall}
 use Rattle.cache.specs.declared.Judged.the-variants.{Accepted}
 use Rattle.history.specs.History.{Event}
 use Rattle.guarantee.specs.Calls.{Call, Lent, run, lookedUp}
 use Rattle.guarantee.specs.Past.{Past, since, pastOf}
 use Rattle.guarantee.specs.Stands.{Follows}
 use Rattle.guarantee.specs.Honest.{Local, forming, Fresh, Honest}
+use Rattle.guarantee.specs.Answers.{answered}
+use Rattle.guarantee.proofs.Run.{kept}
+use Rattle.guarantee.proofs.Guarantee.{stands, insert-answers}
 use Rattle.guarantee.proofs.Fresh.{never-stale}
 
 form-local : (reading : ℕ) (lent m other : List ℕ) (base a : ℕ) → length m ≡ length other → pageBytes m base a ≡ pageBytes other base a → formCall reading m base a lent ≡ formCall reading other base a lent
@@ -51,3 +55,13 @@ module _ (reading : ℕ) (g : Geometry) (m : List ℕ) (byte : (i : ℕ) → get
   formed-accepted e =
       let f = formed-done a lent rec reading m (g .base) e in
       taken (ap (λ (r : List ℕ). wellFormed r a) (sym (f .2)) ∙ formed-well (readingOf reading) (reading-proper reading) m (g .base) a byte (f .0 .good) (f .0 .inner) (f .1)) (f .0 .inner)
+
+-- so after any calls the block formed from the memory as it is, in the store's reading, goes in; and the reading is what the store's header says
+module _ (p : Past) (l : Lent) (start : Follows p (l .store)) (calls : List Call) (g : Geometry) (h : List Event) (is : pastOf p calls l ≡ since g h) where
+  pub formed-inserts : ((i : ℕ) → getD (run calls l .memory) i 0 < 256) → length (l .memory) ≡ 4096 * g .pages → (a : ℕ) (lent rec : List ℕ) → forming lent g (run calls l .memory) a ≡ (Done, rec) → insertCall (run calls l .store) a rec .0 ≡ Done
+  formed-inserts byte long a lent rec e =
+      insert-answers p l start calls g h is a rec
+      ∙ ap answered (formed-accepted _ g (run calls l .memory) byte (kept p l start calls .roomy ∙ long) a lent rec e)
+
+  pub reading-stated : stated (run calls l .store) .reading ≡ g .reading
+  reading-stated = ap (λ (k : Geometry). k .reading) (opened-says (run calls l .store) g (stands p l start calls g h is .sound) .is)

@@ -19,9 +19,10 @@ expected g = 0x1_0043_4256 + g .e * 0x1_0000_0000_0000
 -- what the test of the first eight bytes leaves known
 signed : (c : tie.Else2) → Signed (c .before .before .before .before .before .before .args .store .now)
 signed c =
-    let word = c .before .before in
-    let bytes = word .before .before .before in
-    unread-says (bytes .before .args .store .now) (λ i. omega (arith, bytes .shared-slice-known .given i)) (ap unread (sym (word .first-number .ensures)) ∙ c .if2 .left ∙ ap expected (word .before .stated .ensures .0))
+    let first = c .before .before in
+    let bytes = first .before .before .before in
+    let test : unread (first .first-number .result) ≡ expected (first .before .stated .result) = omega arith in
+    unread-says (bytes .before .args .store .now) (λ i. omega (arith, bytes .shared-slice-known .given i)) (ap unread (sym (first .first-number .ensures)) ∙ test ∙ ap expected (first .before .stated .ensures .0))
 
 abbrev within : Geometry → Bool
 within g = sized (g .e) (g .base) (g .pages)
@@ -38,8 +39,12 @@ open-spec =
     (λ c. omega arith) (λ c. omega arith)
     (λ c. omega (arith, c .before .before .stated .ensures .1)) (λ c. omega (arith, c .before .before .stated .ensures .1))
     (λ c.
-    let word = c .before .before in
-    sym (opened-not _ (λ h. c .if2 .taken (ap unread (word .first-number .ensures ∙ h .signed .1 ∙ signature-is _ _) ∙ unread-is _ _ (h .signed .0) ∙ ap expected (sym (word .before .stated .ensures .0))))))
+    let first = c .before .before in
+    let told = first .before .stated .ensures in
+    sym (opened-not _ (λ h.
+    let test : unread (first .first-number .result) ≡ expected (first .before .stated .result) =
+    ap unread (first .first-number .ensures ∙ h .signed .1 ∙ signature-is _ _) ∙ unread-is _ _ (h .signed .0) ∙ ap expected (sym (told .0)) in
+    omega (arith, told .1))))
     (λ c κs. search needs)
     (λ c κs. rw (c .before .before .before .before .before .stated .ensures .0) (sized-are _ _ _ _ (signed (c .before .before) .0) (bounded c)))
     (λ c.
