@@ -3,6 +3,9 @@
 use cache::ReportAnswer;
 use libc::STDOUT_FILENO;
 
+// The Rust's reading, for the store and for each block.
+const READING: u64 = 0;
+
 // Where the contactor's routine stands. Its first op loads x10 with 0, hold open, or with 1, close; a return follows.
 const ROUTINE: u64 = 0x100;
 
@@ -54,7 +57,7 @@ fn form_and_insert(store: &mut [u8], memory: &[u8]) {
     text(b"  form: ");
     io::print_decimal(
         STDOUT_FILENO,
-        form::form(0, memory, 0, ROUTINE, &mut record).number(),
+        form::form(READING, memory, 0, ROUTINE, &mut record).number(),
     );
     text(b", x10 = ");
     end(bits::doubleword_at(&record, 24));
@@ -65,7 +68,7 @@ fn form_and_insert(store: &mut [u8], memory: &[u8]) {
 // A new store, and the routine that holds the contactor open: formed, inserted and found.
 fn hold(store: &mut [u8], memory: &mut [u8]) {
     text(b"  make: ");
-    end(cache::make(store, 0, 2, 0, 1).number());
+    end(cache::make(store, READING, 2, 0, 1).number());
     write(store, memory, ROUTINE, 4, HOLD);
     write(store, memory, ROUTINE + 4, 2, RETURN);
     lookup(store);
