@@ -1,6 +1,6 @@
--- What any list of entries gives that tells of two readings: at an entry they differ, and the manual's reading is the Rust's amended.
+-- What any list of entries gives that tells of two readings: at an entry they differ, in more than operands, and the manual's reading is the Rust's amended.
 -- Assumes nothing.
-use mathlib.Core.Path.{_≡_, refl, sym, _∙_}
+use mathlib.Core.Path.{_≡_, refl, sym, ap, _∙_}
 use mathlib.Core.Bool.{Bool, true, false, cond, not, _&&_, _||_}
 use mathlib.Core.List.{List, [], _∷_}
 use Prim.Native.Nat.{ℕ, suc, _+_, _*_}
@@ -13,10 +13,19 @@ use Rattle.op.specs.declared.Decoded.{Decoded}
 use Rattle.op.specs.declared.Decoded.the-variants.{Some, None}
 use Rattle.agree.specs.Differences.{Entry, listed, Told, amended}
 
--- what tells two answers apart whatever their operands are: the op's number and its kind
+-- what tells two answers apart whatever their operands are: whether there is an op, its number and its kind
+abbrev pub lead : Decoded → List ℕ
+lead None = []
+lead (Some op) = opFields op .op ∷ opFields op .kind ∷ []
+
+-- as one number, to be compared
+abbrev stampOf : List ℕ → ℕ
+stampOf [] = 0
+stampOf (op ∷ []) = 0
+stampOf (op ∷ kind ∷ _) = suc op * 64 + kind
+
 abbrev stamp : Decoded → ℕ
-stamp None = 0
-stamp (Some op) = suc (opFields op .op) * 64 + opFields op .kind
+stamp d = stampOf (lead d)
 
 abbrev unlike : Decoded → Decoded → Bool
 unlike a b = not (eqb (stamp a) (stamp b))
@@ -26,8 +35,8 @@ abbrev pub apart : List Entry → ℕ → Bool
 apart [] w = true
 apart (e ∷ es) w = unlike (e .rust w) (e .manual w) && apart es w
 
-refuted : (a b : Decoded) → a ≡ b → T (unlike a b) → ⊥
-refuted a b p = rw p (λ t. no (eqb (stamp b) (stamp b)) (eqb-refl (stamp b)) t)
+refuted : (a b : Decoded) → lead a ≡ lead b → T (unlike a b) → ⊥
+refuted a b p = rw (ap stampOf p) (λ t. no (eqb (stamp b) (stamp b)) (eqb-refl (stamp b)) t)
   where
     no : (a : Bool) → T a → T (not a) → ⊥
     no true s t = t
@@ -41,14 +50,14 @@ fields x k y l t h =
     (eqb-true x k (b .0), eqb-true y l (b .1), a .1)
 
 module _ (rust manual : ℕ → Decoded) where
-  pub differ-by : (es : List Entry) → Told es rust manual → (w : ℕ) → T (apart es w) → listed es w ≡ true → rust w ≡ manual w → ⊥
+  pub differ-by : (es : List Entry) → Told es rust manual → (w : ℕ) → T (apart es w) → listed es w ≡ true → lead (rust w) ≡ lead (manual w) → ⊥
   differ-by [] t w a h d = true-false h refl
   differ-by (e ∷ es) t w a h d =
       let k = both (unlike (e .rust w) (e .manual w)) (apart es w) a in
       pick (e .covers w) refl (k .0) (λ h. differ-by es (t .2) w (k .1) h d) h
     where
       pick : (c : Bool) → e .covers w ≡ c → T (unlike (e .rust w) (e .manual w)) → (listed es w ≡ true → ⊥) → (c || listed es w) ≡ true → ⊥
-      pick true p k others h = let r = t .1 w p in refuted (e .rust w) (e .manual w) (sym (r .0) ∙ d ∙ r .1) k
+      pick true p k others h = let r = t .1 w p in refuted (e .rust w) (e .manual w) (sym (ap lead (r .0)) ∙ d ∙ ap lead (r .1)) k
       pick false p k others h = others h
 
   pub manual-by : (es : List Entry) → Told es rust manual → (w : ℕ) → (listed es w ≡ false → rust w ≡ manual w) → manual w ≡ amended es rust w

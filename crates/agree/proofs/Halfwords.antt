@@ -1,7 +1,7 @@
 -- At every halfword of an entry the Rust and the manual read what the entry says, and outside the entries they read each halfword alike.
 -- The quadrant and funct3 pick a row in each reading; row by row the manual's figures give the Rust's sums.
 -- Assumes nothing.
-use mathlib.Core.Path.{_≡_, refl, sym}
+use mathlib.Core.Path.{_≡_, refl, sym, ap}
 use mathlib.Core.Bool.{Bool, true, false, cond, not, _&&_, _||_, true≢false}
 use Prim.Native.Nat.{ℕ, _+_, _*_, _/_, _<_}
 use native.Mathlib.Nat.{div-div-eq-div-mul}
@@ -24,7 +24,7 @@ use Rattle.halfword.specs.Halfword.{halfAt, rustHalf}
 use Rattle.manual.specs.Halfwords as manual
 use Rattle.manual.specs.Halfwords.{halfBy, manualHalf}
 use Rattle.agree.specs.Differences.{listed, Told, amended, row, imm0, halfEntries}
-use Rattle.agree.proofs.Entries.{fields, differ-by, manual-by}
+use Rattle.agree.proofs.Entries.{fields, lead, differ-by, manual-by}
 
 -- the figures
 addi4spn : (w : ℕ) → rust.nzuimmAddi4spn w ≡ manual.addi4spn w
@@ -191,8 +191,12 @@ jr-0 w h = let k = fields (bitsAt w 12 1) 0 (rs2 w) 0 (eqb (rd w) 0) h in rw (k 
 pub told : Told halfEntries rustHalf manualHalf
 told = (refl, at-row 1 1 _ _ _ (λ w h. rw (eqb-true (rd w) 0 h) (refl, refl)), (refl, at-row 1 3 _ _ _ addi16sp-0, (refl, at-row 1 3 _ _ _ lui-0, (refl, at-row 2 2 _ _ _ (λ w h. rw (eqb-true (rd w) 0 h) (refl, refl)), (refl, at-row 2 3 _ _ _ (λ w h. rw (eqb-true (rd w) 0 h) (refl, refl)), (refl, at-row 2 4 _ _ _ jr-0, tt))))))
 
+-- in the op or its kind, or in having one
+pub unlike : (w : ℕ) → listed halfEntries w ≡ true → lead (rustHalf w) ≡ lead (manualHalf w) → ⊥
+unlike w = differ-by rustHalf manualHalf halfEntries told w tt
+
 pub differ : (w : ℕ) → listed halfEntries w ≡ true → rustHalf w ≡ manualHalf w → ⊥
-differ w = differ-by rustHalf manualHalf halfEntries told w tt
+differ w h e = unlike w h (ap lead e)
 
 pub manual-is : (w : ℕ) → manualHalf w ≡ amended halfEntries rustHalf w
 manual-is w = manual-by rustHalf manualHalf halfEntries told w (agree w)

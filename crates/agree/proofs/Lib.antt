@@ -1,11 +1,11 @@
--- The theorems: of words and of halfwords that the entries tell the two readings, `agree`, `differ` and `manual-is`; and `agree` of the ALU, where no
+-- The theorems: of words and of halfwords that the entries tell the two readings, `agree`, `differ`, `unlike` and `manual-is`; and `agree` of the ALU, where no
 -- difference is known.
 pub mod Alu
 mod AluBits
 mod AluBytes
 mod AluCounts
 mod AluSigns
-mod Entries
+pub mod Entries
 mod Formats
 pub mod Halfwords
 pub mod Words

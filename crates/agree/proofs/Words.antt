@@ -17,7 +17,7 @@ use Rattle.word.specs.Word as rust
 use Rattle.word.specs.Word.{formBy, formOf, rustWord}
 use Rattle.manual.specs.Words.{Format, formatBy, manualWord, opOf}
 use Rattle.agree.specs.Differences.{listed, Told, amended, imm, reg, wordEntries}
-use Rattle.agree.proofs.Entries.{fields, differ-by, manual-by}
+use Rattle.agree.proofs.Entries.{fields, lead, differ-by, manual-by}
 use Rattle.agree.proofs.Formats.{named, operands, same, same-is}
 
 -- a word with these fields
@@ -182,8 +182,12 @@ pub told : Told wordEntries rustWord manualWord
 unfolding formBy formatBy
 told = (refl, at-imm 1 0x682, (refl, at-imm 1 0x684, (refl, at-imm 1 0x604, (refl, at-imm 1 0x605, (refl, at-imm 5 0xd58, (refl, at-imm 5 0xd48, (refl, at-imm 5 0x507, (refl, at-imm 5 0x6b8, (refl, at-imm 5 0x287, (refl, at-reg 5 5, (refl, at-reg 6 5, tt)))))))))))
 
+-- in the op or its kind, or in having one
+pub unlike : (w : ℕ) → listed wordEntries w ≡ true → lead (rustWord w) ≡ lead (manualWord w) → ⊥
+unlike w = differ-by rustWord manualWord wordEntries told w tt
+
 pub differ : (w : ℕ) → listed wordEntries w ≡ true → rustWord w ≡ manualWord w → ⊥
-differ w = differ-by rustWord manualWord wordEntries told w tt
+differ w h e = unlike w h (ap lead e)
 
 pub manual-is : (w : ℕ) → manualWord w ≡ amended wordEntries rustWord w
 manual-is w = manual-by rustWord manualWord wordEntries told w (agree w)

@@ -7,7 +7,7 @@ use Prim.Native.Nat.{ℕ, suc, _+_, _-_, _*_, _/_, _%_, _^_, _≤_, _<_}
 use native.Mathlib.Omega.{arith}
 use native.Mathlib.Nat.{mod-eq-of-lt}
 use lib.Dec.{eqb}
-use lib.ListN.{length, replicate, length-append, length-replicate}
+use lib.ListN.{length, drop, replicate, length-append, length-replicate}
 use borrow.Author.Tests.{eq-eqb}
 use Rattle.bits.specs.Bytes.{le, patch, halfwordAt}
 use Rattle.bits.proofs.Bytes.{length-le, halfword-le, doubleword-le, patch-append, le-cons}
@@ -78,3 +78,11 @@ module _ (address : ℕ) (ops : List Insn) (a : address < 2 ^ 64) (some : 1 ≤ 
       let count : halfwordAt (le 2 (length ops)) 0 ≡ length ops = halfword-le (length ops) [] ∙ mod-eq-of-lt (omega arith) in
       let len : halfwordAt (le 2 (byteLen ops)) 0 ≡ byteLen ops = halfword-le (byteLen ops) [] ∙ mod-eq-of-lt (omega arith) in
       decides record-head ∙ rw (count, len) w
+
+-- a record tells how many ops it has, and their records
+pub record-tells : (address : ℕ) (ops other : List Insn) → length ops ≤ 64 → length other ≤ 64 → blockRecord address ops ≡ blockRecord address other
+    → (length ops ≡ length other) × (opRecords 0 ops ++ replicate (1024 - 16 * length ops) 0 ≡ opRecords 0 other ++ replicate (1024 - 16 * length other) 0)
+unfolding blockRecord le
+record-tells address ops other few few′ e =
+    let counted : (l : List Insn) → length l ≤ 64 → halfwordAt (blockRecord address l) 8 ≡ length l = λ l h. halfword-le (length l) [] ∙ mod-eq-of-lt (omega arith) in
+    (sym (counted ops few) ∙ ap (λ (s : List ℕ). halfwordAt s 8) e ∙ counted other few′, ap (drop 16) e)

@@ -22,18 +22,20 @@ abbrev pub putOf : Decoded → ℕ → ℕ → ℕ → List ℕ → Put × List 
 putOf (Some op) ilen at pcOff s = (Recorded (opFields op .op) ilen, patch s at (opRecord op ilen pcOff))
 putOf None ilen at pcOff s = (Nothing, s)
 
--- a decode call: 2, 6, 4
-abbrev pub opOrNone : Decoded → ℕ → List ℕ → Answer × List ℕ
-opOrNone (Some op) ilen lent = (Done, opRecord op ilen 0)
-opOrNone None ilen lent = (Refused NoOp, lent)
+-- 2, 6, by the reading and the length of the lent record; Done where decoding may begin
+abbrev pub decodeJudged : ℕ → ℕ → Answer
+decodeJudged reading room =
+    cond (not (readingKnown reading)) (Refused BadGeometry)
+    (cond (not (eqb room 16)) (Refused WrongBuffer) Done)
 
-abbrev pub decodeCall : ℕ → Decoded → ℕ → List ℕ → Answer × List ℕ
-decodeCall reading decoded ilen lent =
-    cond (not (readingKnown reading)) (Refused BadGeometry, lent)
-    (cond (not (eqb (length lent) 16)) (Refused WrongBuffer, lent) (opOrNone decoded ilen lent))
+-- then the record, or 4 where there is no op
+abbrev pub decodedInto : Answer → Decoded → ℕ → List ℕ → Answer × List ℕ
+decodedInto (Refused why) decoded ilen lent = (Refused why, lent)
+decodedInto Done None ilen lent = (Refused NoOp, lent)
+decodedInto Done (Some op) ilen lent = (Done, opRecord op ilen 0)
 
 abbrev pub wordCall : ℕ → ℕ → List ℕ → Answer × List ℕ
-wordCall reading raw lent = decodeCall reading (readingOf reading .ofWord raw) 4 lent
+wordCall reading raw lent = decodedInto (decodeJudged reading (length lent)) (readingOf reading .ofWord raw) 4 lent
 
 abbrev pub halfCall : ℕ → ℕ → List ℕ → Answer × List ℕ
-halfCall reading raw lent = decodeCall reading (readingOf reading .ofHalf raw) 2 lent
+halfCall reading raw lent = decodedInto (decodeJudged reading (length lent)) (readingOf reading .ofHalf raw) 2 lent

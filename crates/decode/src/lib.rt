@@ -1,21 +1,13 @@
 // Decodes words and halfwords into op records: at a place of lent bytes, for forming, and as the two public calls.
 ghost use mathlib.Core.Path.{_≡_};
-ghost use lib.Dec.{eqb};
 ghost use Prim.Native.Nat.{_+_, _≤_};
 ghost use lib.ListN.{length};
 ghost use Rattle.reading.specs.Readings.{readingOf};
-ghost use Rattle.decode.specs.Call.{putOf, wordCall, halfCall};
+ghost use Rattle.decode.specs.Call.{putOf, decodeJudged, wordCall, halfCall};
 use answer::Answer;
 use answer::Refusal;
 use op::Decoded;
 use op::OpRecord;
-
-// Whether a buffer of this length is one op record.
-fn is_record(len: usize) -> bool
-    ensures { λ r. ⌜ r ≡ eqb len 16 ⌝ }
-{
-    len == OpRecord::LEN
-}
 
 // What was put into lent bytes: a record, whose op number and ilen these are, or none.
 pub enum Put {
@@ -52,19 +44,29 @@ pub fn put_halfword(reading: u64, raw: u16, lent: &mut [u8], at: usize, off: u16
     write(reading::read_halfword(reading, raw), 2, lent, at, off)
 }
 
-// Decodes a word into the lent record of sixteen bytes.
-pub fn decode_word(reading: u64, raw: u32, lent: &mut [u8]) -> Answer
-    ensures { λ r. ⌜ (r, now (lent .exit)) ≡ wordCall reading raw (now (lent .entry)) ⌝ }
+// Whether decoding may begin, by the reading and the length of the lent record.
+fn judge_decode(reading: u64, room: usize) -> Answer
+    ensures { λ r. ⌜ r ≡ decodeJudged reading room ⌝ }
 {
     if !op::reading_known(reading) {
         return Answer::Refused(Refusal::BadGeometry);
     }
-    if !is_record(lent.len()) {
+    if room != OpRecord::LEN {
         return Answer::Refused(Refusal::WrongBuffer);
     }
-    match put_word(reading, raw, lent, 0, 0) {
-        Put::Recorded(_, _) => Answer::Done, // the word's record
-        Put::Nothing => Answer::Refused(Refusal::NoOp),
+    Answer::Done
+}
+
+// Decodes a word into the lent record of sixteen bytes.
+pub fn decode_word(reading: u64, raw: u32, lent: &mut [u8]) -> Answer
+    ensures { λ r. ⌜ (r, now (lent .exit)) ≡ wordCall reading raw (now (lent .entry)) ⌝ }
+{
+    match judge_decode(reading, lent.len()) {
+        Answer::Done => match put_word(reading, raw, lent, 0, 0) {
+            Put::Recorded(_, _) => Answer::Done, // the word's record
+            Put::Nothing => Answer::Refused(Refusal::NoOp),
+        },
+        Answer::Refused(why) => Answer::Refused(why),
     }
 }
 
@@ -72,14 +74,11 @@ pub fn decode_word(reading: u64, raw: u32, lent: &mut [u8]) -> Answer
 pub fn decode_halfword(reading: u64, raw: u16, lent: &mut [u8]) -> Answer
     ensures { λ r. ⌜ (r, now (lent .exit)) ≡ halfCall reading raw (now (lent .entry)) ⌝ }
 {
-    if !op::reading_known(reading) {
-        return Answer::Refused(Refusal::BadGeometry);
-    }
-    if !is_record(lent.len()) {
-        return Answer::Refused(Refusal::WrongBuffer);
-    }
-    match put_halfword(reading, raw, lent, 0, 0) {
-        Put::Recorded(_, _) => Answer::Done, // the halfword's record
-        Put::Nothing => Answer::Refused(Refusal::NoOp),
+    match judge_decode(reading, lent.len()) {
+        Answer::Done => match put_halfword(reading, raw, lent, 0, 0) {
+            Put::Recorded(_, _) => Answer::Done, // the halfword's record
+            Put::Nothing => Answer::Refused(Refusal::NoOp),
+        },
+        Answer::Refused(why) => Answer::Refused(why),
     }
 }

@@ -1,4 +1,4 @@
--- A formed record is well formed for its address, in any reading that gives proper ops and no Fallback; the Rust's is one.
+-- A formed record is well formed for its address, in any reading that gives proper ops and no Fallback; both of the calls' readings do.
 -- Assumes nothing.
 use mathlib.Core.Path.{_≡_, refl, sym, ap, _∙_}
 use mathlib.Core.Bool.{Bool, true, false, cond, _||_, not, or-true}
@@ -17,21 +17,20 @@ use Rattle.op.specs.declared.Decoded.{Decoded}
 use Rattle.op.specs.declared.Decoded.the-variants.{Some, None}
 use Rattle.op.specs.Proper.{Proper}
 use Rattle.op.proofs.Proper.{proper-well}
-use Rattle.word.proofs.Read.{word-op}
-use Rattle.halfword.proofs.Read.{half-op}
 use Rattle.block.specs.Memory.{goodMemory, inMemory, pageBytes, restOfPage}
 use Rattle.block.specs.Record.{Insn, insn, opRecords, byteLen, blockRecord}
 use Rattle.block.specs.WellFormed.{allZero, jumps, opsWellFormed, wellFormed}
 use Rattle.block.proofs.Places.{GoodMemory, good-memory, held}
 use Rattle.block.proofs.Records.{walk-record, record-well}
 use Rattle.block.proofs.Zeros.{zero-all}
-use Rattle.decode.specs.Readings.{rust}
+use Rattle.reading.specs.Readings.{readingOf}
+use Rattle.reading.proofs.Proper.{word-proper, half-proper}
 use Rattle.form.specs.ProperReading.{ProperReading}
 use Rattle.form.specs.Forming.{ilenAt, opAt, andThen, opsFrom, formed}
 use Rattle.form.proofs.Kept.{op-by, Within, within}
 
-pub rust-proper : ProperReading rust
-rust-proper = record { words = word-op; halves = half-op }
+pub reading-proper : (n : ℕ) → ProperReading (readingOf n)
+reading-proper n = record { words = word-proper n; halves = half-proper n }
 
 abbrev Well : Decoded → ℕ → Type 0
 Well None ilen = Unit {0}

@@ -6,3 +6,4 @@ pub mod Page
 pub mod Seal
 pub mod FormedWell
 pub mod Taken
+pub mod TwoReadings

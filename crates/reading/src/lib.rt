@@ -1,6 +1,8 @@
 // The two readings of words and halfwords: 0 is the Rust's, 1 the manual's. One decoder serves both. Where the manual parts from the Rust, at the
 // entries of docs/DIFFERENCES.md, its answer stands here; everywhere else the Rust's rows answer for both.
 ghost use mathlib.Core.Path.{_≡_};
+ghost use mathlib.Core.Bool.{_&&_};
+ghost use lib.Dec.{eqb};
 ghost use Rattle.word.specs.Instruction.{opcode};
 ghost use Rattle.word.specs.Word.{rustWord};
 ghost use Rattle.manual.specs.Words.{manualWord};
@@ -28,7 +30,7 @@ fn imm_apart(inst: Instruction) -> Apart
 {
     let rd = inst.rd();
     let rs1 = inst.rs1();
-    match inst.funct3() * 0x1000 + inst.0 / 0x10_0000 {
+    match inst.funct3() * 0x1000 + inst.0 / 0x10_0000 % 0x1000 {
         0x1604 => Apart::Reads(Decoded::Some(Op::AluImm {
             kind: AluKind::SextB,
             rd,
@@ -87,9 +89,13 @@ fn reg_apart(inst: Instruction) -> Apart
     }
 }
 
-fn word_apart(raw: u32) -> Apart
-    ensures { λ r. ⌜ orRust r (rustWord raw) ≡ manualWord raw ⌝ }
+// What a reading makes of a word that the Rust's rows do not say.
+fn word_apart(reading: u64, raw: u32) -> Apart
+    ensures { λ r. ⌜ orRust r (rustWord raw) ≡ readingOf reading .ofWord raw ⌝ }
 {
+    if reading != MANUAL {
+        return Apart::Alike;
+    }
     let inst = Instruction(raw);
     match inst.opcode() {
         0x13 => imm_apart(inst),
@@ -99,12 +105,11 @@ fn word_apart(raw: u32) -> Apart
 }
 
 // Reserved by the manual, and decoded by the Rust. The key has the quadrant and then funct3, in hexadecimal.
-fn reserved(raw: u16) -> bool
-    ensures { λ r. ⌜ r ≡ listed halfEntries raw ⌝ }
+fn reserved(c: CompressedInstruction) -> bool
+    ensures { λ r. ⌜ r ≡ listed halfEntries (c .0) ⌝ }
 {
-    let c = CompressedInstruction(raw);
     let rd = c.rd();
-    let no_imm = (raw / 0x1000 % 2 == 0) & (raw / 4 % 0x20 == 0);
+    let no_imm = (c.0 / 0x1000 % 2 == 0) & (c.0 / 4 % 0x20 == 0);
     match c.quadrant() * 0x10 + c.funct3() {
         0x11 => rd == 0, // C.ADDIW
         0x13 => no_imm, // C.ADDI16SP, C.LUI
@@ -115,29 +120,31 @@ fn reserved(raw: u16) -> bool
     }
 }
 
+fn reserved_in(reading: u64, raw: u16) -> bool
+    ensures { λ r. ⌜ r ≡ (eqb reading 1 && listed halfEntries raw) ⌝ }
+{
+    if reading != MANUAL {
+        return false;
+    }
+    reserved(CompressedInstruction(raw))
+}
+
 // What a word is read as.
 pub fn read_word(reading: u64, raw: u32) -> Decoded
     ensures { λ r. ⌜ r ≡ readingOf reading .ofWord raw ⌝ }
 {
-    if reading == MANUAL {
-        match word_apart(raw) {
-            Apart::Reads(decoded) => {
-                return decoded;
-            }
-            Apart::Alike => {}
-        }
+    match word_apart(reading, raw) {
+        Apart::Reads(decoded) => decoded,
+        Apart::Alike => word::decode_full(raw),
     }
-    word::decode_full(raw)
 }
 
 // What a halfword is read as.
 pub fn read_halfword(reading: u64, raw: u16) -> Decoded
     ensures { λ r. ⌜ r ≡ readingOf reading .ofHalf raw ⌝ }
 {
-    if reading == MANUAL {
-        if reserved(raw) {
-            return Decoded::None;
-        }
+    if reserved_in(reading, raw) {
+        return Decoded::None;
     }
     halfword::decode_compressed(raw)
 }

@@ -16,4 +16,4 @@ put-halfword-spec =
     let wrote = c .before .before in
     let decoded = wrote .before .before in
     let a = decoded .before .before .args in
-    wrote .write .ensures ∙ ap (λ (d : Decoded). putOf d 2 (a .at) (a .off) (a .lent .now)) (decoded .decode-compressed .ensures)))
+    wrote .write .ensures ∙ ap (λ (d : Decoded). putOf d 2 (a .at) (a .off) (a .lent .now)) (decoded .read-halfword .ensures)))

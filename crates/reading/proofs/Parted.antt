@@ -1,0 +1,128 @@
+-- What the fields of a word, or of a halfword, say of the entries that cover it, and so of what the manual reads it as.
+-- Assumes nothing.
+use mathlib.Core.Path.{_≡_, refl, sym, _∙_}
+use mathlib.Core.Bool.{Bool, true, false, cond, not, _&&_, _||_}
+use mathlib.Core.List.{List, [], _∷_}
+use Prim.Native.Nat.{ℕ, _+_, _*_, _<_}
+use native.Mathlib.Omega.{arith}
+use lib.Dec.{eqb}
+use lib.IntN.{pos}
+use borrow.Author.Tests.{eqb-true, ne-eqb}
+use Rattle.bits.specs.Bits.{bitsAt}
+use Rattle.bits.proofs.Tests.{and-both, not-true}
+use Rattle.op.specs.declared.AluKind.{AluKind}
+use Rattle.op.specs.declared.Op.the-variants.{AluImm, AluReg}
+use Rattle.op.specs.declared.Decoded.{Decoded}
+use Rattle.op.specs.declared.Decoded.the-variants.{Some, None}
+use Rattle.word.specs.Instruction as inst
+use Rattle.word.specs.Word.{rustWord}
+use Rattle.halfword.specs.Halfword.{rustHalf}
+use Rattle.manual.specs.Words.{manualWord}
+use Rattle.manual.specs.Halfwords.{manualHalf}
+use Rattle.agree.specs.Differences.{Entry, listed, amended, imm, unary, reg, binary, row, wordEntries, halfEntries}
+use Rattle.agree.proofs.Words as words
+use Rattle.agree.proofs.Halfwords as halves
+
+-- an entry's answer, with the operands that the decoder read
+pub unary-made : (kind : AluKind) (w a b : ℕ) → a ≡ inst.rd w → b ≡ inst.rs1 w → {d : Decoded} → unary kind w ≡ d → Some (AluImm kind a b (pos 0)) ≡ d
+unary-made kind w a b ea eb e = rw (ea, eb) e
+
+pub binary-made : (kind : AluKind) (w a b c : ℕ) → a ≡ inst.rd w → b ≡ inst.rs1 w → c ≡ inst.rs2 w → {d : Decoded} → binary kind w ≡ d → Some (AluReg kind a b c) ≡ d
+binary-made kind w a b c ea eb ec e = rw (ea, eb, ec) e
+
+-- where a field is the last of three that an entry of words asks for
+three : (x k y l z m : ℕ) → (eqb x k && eqb y l && eqb z m) ≡ true → (y ≡ l) × (z ≡ m)
+three x k y l z m h =
+    let a = and-both (eqb x k && eqb y l) (eqb z m) h in
+    let b = and-both (eqb x k) (eqb y l) (a .0) in
+    (eqb-true y l (b .1), eqb-true z m (a .1))
+
+-- opcode 0x13, by the decoder's key
+module _ (w funct3 : ℕ) (is : funct3 ≡ bitsAt w 12 3) where
+  abbrev pub immKey : ℕ
+  immKey = funct3 * 0x1000 + bitsAt w 20 12
+
+  pub imm-fields : (f3 top : ℕ) → top < 0x1000 → immKey ≡ f3 * 0x1000 + top → (bitsAt w 12 3 ≡ f3) × (bitsAt w 20 12 ≡ top)
+  imm-fields f3 top h e = (omega arith, omega arith)
+
+  not-imm : (f3 top : ℕ) → (immKey ≡ f3 * 0x1000 + top → ⊥) → imm f3 top w ≡ false
+  not-imm f3 top n =
+      not-true (imm f3 top w)
+      (λ t. let k = three (bitsAt w 0 7) 0x13 (bitsAt w 12 3) f3 (bitsAt w 20 12) top t in n (omega arith))
+
+  -- where no entry has the key, the Rust's rows answer
+  pub imm-alike : bitsAt w 0 7 ≡ 0x13
+      → (immKey ≡ 0x1604 → ⊥) → (immKey ≡ 0x1605 → ⊥) → (immKey ≡ 0x1682 → ⊥) → (immKey ≡ 0x1684 → ⊥)
+      → (immKey ≡ 0x5287 → ⊥) → (immKey ≡ 0x56b8 → ⊥) → (immKey ≡ 0x5507 → ⊥) → (immKey ≡ 0x5d48 → ⊥) → (immKey ≡ 0x5d58 → ⊥)
+      → rustWord w ≡ manualWord w
+  imm-alike o a b c d e f g h i =
+      words.agree w
+      (rw (not-imm 1 0x604 a, not-imm 1 0x605 b, not-imm 1 0x682 c, not-imm 1 0x684 d, not-imm 5 0x287 e, not-imm 5 0x6b8 f, not-imm 5 0x507 g, not-imm 5 0xd48 h, not-imm 5 0xd58 i, o)
+      refl)
+
+-- opcode 0x33
+module _ (w funct3 funct7 : ℕ) (is3 : funct3 ≡ bitsAt w 12 3) (is7 : funct7 ≡ bitsAt w 25 7) where
+  abbrev pub regKey : ℕ
+  regKey = funct3 * 0x100 + funct7
+
+  pub reg-fields : (f3 f7 : ℕ) → f7 < 0x80 → regKey ≡ f3 * 0x100 + f7 → (bitsAt w 12 3 ≡ f3) × (bitsAt w 25 7 ≡ f7)
+  reg-fields f3 f7 h e = (omega arith, omega arith)
+
+  not-reg : (f3 f7 : ℕ) → (regKey ≡ f3 * 0x100 + f7 → ⊥) → reg f3 f7 w ≡ false
+  not-reg f3 f7 n =
+      not-true (reg f3 f7 w)
+      (λ t. let k = three (bitsAt w 0 7) 0x33 (bitsAt w 12 3) f3 (bitsAt w 25 7) f7 t in n (omega arith))
+
+  pub reg-alike : bitsAt w 0 7 ≡ 0x33 → (regKey ≡ 0x505 → ⊥) → (regKey ≡ 0x605 → ⊥) → rustWord w ≡ manualWord w
+  reg-alike o a b = words.agree w (rw (not-reg 5 5 a, not-reg 6 5 b, o) refl)
+
+pub other-alike : (w : ℕ) → (bitsAt w 0 7 ≡ 0x13 → ⊥) → (bitsAt w 0 7 ≡ 0x33 → ⊥) → rustWord w ≡ manualWord w
+other-alike w a b = words.agree w (rw (ne-eqb (bitsAt w 0 7) 0x13 a, ne-eqb (bitsAt w 0 7) 0x33 b) refl)
+
+-- a halfword, by the decoder's key
+module _ (w quadrant funct3 : ℕ) (is : quadrant ≡ bitsAt w 0 2) (is3 : funct3 ≡ bitsAt w 13 3) where
+  abbrev pub halfKey : ℕ
+  halfKey = quadrant * 0x10 + funct3
+
+  pub half-fields : (q f3 : ℕ) → f3 < 8 → halfKey ≡ q * 0x10 + f3 → (bitsAt w 0 2 ≡ q) × (bitsAt w 13 3 ≡ f3)
+  half-fields q f3 h e = (omega arith, omega arith)
+
+  not-row : (q f3 : ℕ) (asked : ℕ → Bool) → (halfKey ≡ q * 0x10 + f3 → ⊥) → row q f3 asked w ≡ false
+  not-row q f3 asked n =
+      not-true (row q f3 asked w)
+      (λ t.
+      let a = and-both (eqb (bitsAt w 0 2) q && eqb (bitsAt w 13 3) f3) (asked w) t in
+      let b = and-both (eqb (bitsAt w 0 2) q) (eqb (bitsAt w 13 3) f3) (a .0) in
+      n (omega (arith, eqb-true (bitsAt w 0 2) q (b .0), eqb-true (bitsAt w 13 3) f3 (b .1))))
+
+  pub not-listed : (halfKey ≡ 0x11 → ⊥) → (halfKey ≡ 0x13 → ⊥) → (halfKey ≡ 0x22 → ⊥) → (halfKey ≡ 0x23 → ⊥) → (halfKey ≡ 0x24 → ⊥) → listed halfEntries w ≡ false
+  not-listed a b c d e = rw (not-row 1 1 _ a, not-row 1 3 _ b, not-row 1 3 _ b, not-row 2 2 _ c, not-row 2 3 _ d, not-row 2 4 _ e) refl
+
+-- what is asked of a row that one entry has, or two
+pub one-asks : (b : Bool) → b ≡ (b || false)
+one-asks true = refl
+one-asks false = refl
+
+pub two-ask : (a b : Bool) → b ≡ ((a && b) || ((not a && b) || false))
+two-ask true true = refl
+two-ask true false = refl
+two-ask false true = refl
+two-ask false false = refl
+
+-- entries at which the manual has no op
+abbrev Silent : List Entry → Type 0
+Silent [] = Unit {0}
+Silent (e ∷ es) = ((w : ℕ) → e .manual w ≡ None) × Silent es
+
+silent : (es : List Entry) → Silent es → (rust : ℕ → Decoded) (w : ℕ) → amended es rust w ≡ cond (listed es w) None (rust w)
+silent [] s rust w = refl
+silent (e ∷ es) s rust w = rw (s .0 w, silent es (s .1) rust w) (either (e .covers w) (listed es w))
+  where
+    either : (a b : Bool) → cond a None (cond b None (rust w)) ≡ cond (a || b) None (rust w)
+    either true b = refl
+    either false b = refl
+
+pub half-is : (w : ℕ) → manualHalf w ≡ cond (listed halfEntries w) None (rustHalf w)
+half-is w =
+    halves.manual-is w
+    ∙ silent halfEntries (λ w. refl, (λ w. refl, (λ w. refl, (λ w. refl, (λ w. refl, (λ w. refl, tt)))))) rustHalf w
