@@ -27,14 +27,14 @@ use Rattle.cache.specs.declared.Judged.the-variants.{Accepted, Rejected}
 pub rejected : {why : Refusal} {g : Geometry} → Rejected why ≡ Accepted g → ⊥
 rejected q = let z : _≡_ {A = ℕ} 0 1 = cc in omega arith
 
-module _ (e base pages : ℕ) (s : List ℕ) (g : Geometry) where
-  pub make-fits : makeJudged e base pages (length s) ≡ Accepted g → Fitting g s
-  make-fits h = go (inBounds e base pages) refl (eqb (length s) (storeLen (geometry e base pages))) refl h
+module _ (reading e base pages : ℕ) (s : List ℕ) (g : Geometry) where
+  pub make-fits : makeJudged reading e base pages (length s) ≡ Accepted g → Fitting g s
+  make-fits h = go (inBounds reading e base pages) refl (eqb (length s) (storeLen (geometry reading e base pages))) refl h
     where
-      go : (x : Bool) → inBounds e base pages ≡ x → (y : Bool) → eqb (length s) (storeLen (geometry e base pages)) ≡ y → cond x (cond y (Accepted (geometry e base pages)) (Rejected NoStore)) (Rejected BadGeometry) ≡ Accepted g → Fitting g s
+      go : (x : Bool) → inBounds reading e base pages ≡ x → (y : Bool) → eqb (length s) (storeLen (geometry reading e base pages)) ≡ y → cond x (cond y (Accepted (geometry reading e base pages)) (Rejected NoStore)) (Rejected BadGeometry) ≡ Accepted g → Fitting g s
       go true ex true ey k =
-          let q : geometry e base pages ≡ g = cc in
-          subst (λ (z : Geometry). Fitting z s) q (record { bounds = bounds-are e base pages ex; exact = eqb-true _ _ ey })
+          let q : geometry reading e base pages ≡ g = cc in
+          subst (λ (z : Geometry). Fitting z s) q (record { bounds = bounds-are reading e base pages ex; exact = eqb-true _ _ ey })
       go true ex false ey k = absurd (rejected k)
       go false ex y ey k = absurd (rejected k)
 

@@ -147,7 +147,7 @@ module _ (form : Former) where
       pub fresh : (calls : List Call) → Honest form p calls l → Fresh form (pastOf p calls l) (run calls l .memory)
       unfolding past run Honest shown
       fresh [] o = first
-      fresh (make e base pages ∷ calls) o = go (makeJudged e base pages (length (l .store))) (pastOf p calls l) (fresh calls o)
+      fresh (make reading e base pages ∷ calls) o = go (makeJudged reading e base pages (length (l .store))) (pastOf p calls l) (fresh calls o)
         where
           go : (j : Judged) (z : Past) → Fresh form z (run calls l .memory) → Fresh form (ifAccepted j (λ g. since g []) z) (run calls l .memory)
           go (Accepted g) z i = λ a r e. no-some r e

@@ -74,8 +74,8 @@ module _ (p : Past) (l : Lent) (start : Follows p (l .store)) (calls : List Call
   lives-hit a r e = shown-hit a r (lives-shown (slotOf g) pageOf h a r e)
 
   -- which calls are accepted, and what notices and writes report
-  pub make-answers : (e base pages : ℕ) → makeCall e base pages (run calls l .store) .0 ≡ answered (makeJudged e base pages (length (l .store)))
-  make-answers e base pages = go (makeJudged e base pages (length (run calls l .store))) ∙ ap (λ (n : ℕ). answered (makeJudged e base pages n)) (kept p l start calls .stored)
+  pub make-answers : (reading e base pages : ℕ) → makeCall reading e base pages (run calls l .store) .0 ≡ answered (makeJudged reading e base pages (length (l .store)))
+  make-answers reading e base pages = go (makeJudged reading e base pages (length (run calls l .store))) ∙ ap (λ (n : ℕ). answered (makeJudged reading e base pages n)) (kept p l start calls .stored)
     where
       go : (j : Judged) → makeBy j (run calls l .store) .0 ≡ answered j
       go (Accepted k) = refl

@@ -154,19 +154,19 @@ pub record Kept (sLen mLen : ℕ) (p : Past) (l : Lent) : Type 0 where
   pub follows : Follows p (l .store)
 
 module _ (sLen mLen : ℕ) (p : Past) (calls : List Call) (l : Lent) (k : Kept sLen mLen (past sLen mLen p calls) l) where
-  made-kept : (e base pages : ℕ) → Kept sLen mLen (past sLen mLen p (make e base pages ∷ calls)) (storing l (makeCall e base pages (l .store) .1))
+  made-kept : (reading e base pages : ℕ) → Kept sLen mLen (past sLen mLen p (make reading e base pages ∷ calls)) (storing l (makeCall reading e base pages (l .store) .1))
   unfolding past
-  made-kept e base pages = go (inBounds e base pages) refl (eqb sLen (storeLen g)) refl
+  made-kept reading e base pages = go (inBounds reading e base pages) refl (eqb sLen (storeLen g)) refl
     where
       g : Geometry
-      g = geometry e base pages
+      g = geometry reading e base pages
 
-      go : (x : Bool) → inBounds e base pages ≡ x → (z : Bool) → eqb sLen (storeLen g) ≡ z → Kept sLen mLen (past sLen mLen p (make e base pages ∷ calls)) (storing l (makeCall e base pages (l .store) .1))
+      go : (x : Bool) → inBounds reading e base pages ≡ x → (z : Bool) → eqb sLen (storeLen g) ≡ z → Kept sLen mLen (past sLen mLen p (make reading e base pages ∷ calls)) (storing l (makeCall reading e base pages (l .store) .1))
       go true ex true ez =
           rw (k .stored, ex, ez) (record {
-            stored = fitting-blank g (bounds-are e base pages ex) (header g 1) (header-long e base pages ex) .exact ∙ sym (eqb-true sLen (storeLen g) ez);
+            stored = fitting-blank g (bounds-are reading e base pages ex) (header g 1) (header-long reading e base pages ex) .exact ∙ sym (eqb-true sLen (storeLen g) ez);
             roomy = k .roomy;
-            follows = make-keeps e base pages ex;
+            follows = make-keeps reading e base pages ex;
           })
       go true ex false ez = rw (k .stored, ex, ez) k
       go false ex z ez = rw (k .stored, ex) k
@@ -182,5 +182,5 @@ module _ (sLen mLen : ℕ) (p : Past) (l : Lent) (k : Kept sLen mLen p l) where
 pub kept : (p : Past) (l : Lent) → Follows p (l .store) → (calls : List Call) → Kept (length (l .store)) (length (l .memory)) (pastOf p calls l) (run calls l)
 unfolding past run
 kept p l y [] = record { stored = refl; roomy = refl; follows = y }
-kept p l y (make e base pages ∷ calls) = made-kept (length (l .store)) (length (l .memory)) p calls (run calls l) (kept p l y calls) e base pages
+kept p l y (make reading e base pages ∷ calls) = made-kept (length (l .store)) (length (l .memory)) p calls (run calls l) (kept p l y calls) reading e base pages
 kept p l y (uses c ∷ calls) = used-kept (length (l .store)) (length (l .memory)) (pastOf p calls l) (run calls l) (kept p l y calls) c

@@ -272,10 +272,10 @@ module _ (g : Geometry) (h : List Event) (s : List ℕ) (y : Stands g h s) (a b 
       go false e = rw e (notice-keeps g (touched (pageOf a) ∷ h) (noticedIn g s a) second b)
 
 -- a new store
-pub make-keeps : (e base pages : ℕ) → inBounds e base pages ≡ true → Stands (geometry e base pages) [] (header (geometry e base pages) 1 ++ blank (geometry e base pages))
+pub make-keeps : (reading e base pages : ℕ) → inBounds reading e base pages ≡ true → Stands (geometry reading e base pages) [] (header (geometry reading e base pages) 1 ++ blank (geometry reading e base pages))
 unfolding marked places insertions
-make-keeps e base pages w =
-    standing (geometry e base pages) [] (header (geometry e base pages) 1 ++ blank (geometry e base pages)) (opened-made e base pages w) (generation-made e base pages w)
-    (λ i c. place-made e base pages w i c)
-    (λ q c. bits-made e base pages w q c)
+make-keeps reading e base pages w =
+    standing (geometry reading e base pages) [] (header (geometry reading e base pages) 1 ++ blank (geometry reading e base pages)) (opened-made reading e base pages w) (generation-made reading e base pages w)
+    (λ i c. place-made reading e base pages w i c)
+    (λ q c. bits-made reading e base pages w q c)
     none-left

@@ -73,7 +73,7 @@ module _ (p : Past) (l : Lent) (start : Follows p (l .store)) where
       go : (p : Past) → Paid p (spent p [] l)
       go unmade = tt
       go (since g h) = refl
-  paid (make e base pages ∷ calls) = go (makeJudged e base pages (length (l .store))) (pastOf p calls l) (paid calls)
+  paid (make reading e base pages ∷ calls) = go (makeJudged reading e base pages (length (l .store))) (pastOf p calls l) (paid calls)
     where
       go : (j : Judged) (z : Past) → Paid z (spent p calls l) → Paid (ifAccepted j (λ g. since g []) z) (ifAccepted j (λ g. nothingDone) (spent p calls l))
       go (Accepted g) z i = refl

@@ -35,54 +35,54 @@ immOf none = 0
 immOf (some r) = getD r 24 0
 
 -- a store of four slots for two pages; then a block in it, another in its place, a notice in the other page
-new : past 4200 8192 unmade (make 2 0 2 ∷ []) ≡ since (geometry 2 0 2) []
+new : past 4200 8192 unmade (make 0 2 0 2 ∷ []) ≡ since (geometry 0 2 0 2) []
 unfolding past
 new = refl
 
-one : past 4200 8192 unmade (uses (insert 0 (block 1)) ∷ make 2 0 2 ∷ []) ≡ since (geometry 2 0 2) (inserted 0 (block 1) ∷ [])
+one : past 4200 8192 unmade (uses (insert 0 (block 1)) ∷ make 0 2 0 2 ∷ []) ≡ since (geometry 0 2 0 2) (inserted 0 (block 1) ∷ [])
 unfolding past events block blockRecord opRecords byteLen wellFormed opsWellFormed placed opWellFormed limits allZero le holds
 one = refl
 
-two : past 4200 8192 unmade (uses (insert 0 (block 2)) ∷ uses (insert 0 (block 1)) ∷ make 2 0 2 ∷ []) ≡ since (geometry 2 0 2) (inserted 0 (block 2) ∷ inserted 0 (block 1) ∷ [])
+two : past 4200 8192 unmade (uses (insert 0 (block 2)) ∷ uses (insert 0 (block 1)) ∷ make 0 2 0 2 ∷ []) ≡ since (geometry 0 2 0 2) (inserted 0 (block 2) ∷ inserted 0 (block 1) ∷ [])
 unfolding past events block blockRecord opRecords byteLen wellFormed opsWellFormed placed opWellFormed limits allZero le holds
 two = refl
 
-noticed : past 4200 8192 unmade (uses (notice 4096) ∷ uses (insert 0 (block 1)) ∷ make 2 0 2 ∷ []) ≡ since (geometry 2 0 2) (touched 1 ∷ inserted 0 (block 1) ∷ [])
+noticed : past 4200 8192 unmade (uses (notice 4096) ∷ uses (insert 0 (block 1)) ∷ make 0 2 0 2 ∷ []) ≡ since (geometry 0 2 0 2) (touched 1 ∷ inserted 0 (block 1) ∷ [])
 unfolding past events block blockRecord opRecords byteLen wellFormed opsWellFormed placed opWellFormed limits allZero le holds
 noticed = refl
 
 pub keeps-nothing : ShowsRight keepsNothing → ⊥
 unfolding shown
-keeps-nothing right = no-some (block 1) (right 4200 8192 _ (geometry 2 0 2) _ one 0)
+keeps-nothing right = no-some (block 1) (right 4200 8192 _ (geometry 0 2 0 2) _ one 0)
 
 pub keeps-first : ShowsRight keepsFirst → ⊥
 unfolding shown firstKept insertions immOf block blockRecord opRecords le
 keeps-first right =
-    let same : some (block 1) ≡ some (block 2) = right 4200 8192 _ (geometry 2 0 2) _ two 0 in
+    let same : some (block 1) ≡ some (block 2) = right 4200 8192 _ (geometry 0 2 0 2) _ two 0 in
     let imm : _≡_ {A = ℕ} 1 2 = ap immOf same in
     omega arith
 
 pub empties-all : ShowsRight emptiesAll → ⊥
 unfolding shown untouched
-empties-all right = no-some (block 1) (right 4200 8192 _ (geometry 2 0 2) _ noticed 0)
+empties-all right = no-some (block 1) (right 4200 8192 _ (geometry 0 2 0 2) _ noticed 0)
 
 pub always-all : CountsRight slotsDue alwaysAll → ⊥
 unfolding marked
-always-all right = let none-due : _≡_ {A = ℕ} 4 0 = right 4200 8192 _ (geometry 2 0 2) _ new 0 in omega arith
+always-all right = let none-due : _≡_ {A = ℕ} 4 0 = right 4200 8192 _ (geometry 0 2 0 2) _ new 0 in omega arith
 
 pub always-none : CountsRight slotsDue alwaysNone → ⊥
 unfolding marked
-always-none right = let all-due : _≡_ {A = ℕ} 0 4 = right 4200 8192 _ (geometry 2 0 2) _ one 0 in omega arith
+always-none right = let all-due : _≡_ {A = ℕ} 0 4 = right 4200 8192 _ (geometry 0 2 0 2) _ one 0 in omega arith
 
 -- the block that is there is dropped, and it alone
 pub never-drops : CountsRight dropsDue alwaysNone → ⊥
 unfolding shown
 never-drops right =
-    let none-due : 0 ≡ live (geometry 2 0 2) (inserted 0 (block 1) ∷ []) 0 = right 4200 8192 _ (geometry 2 0 2) _ one 0 in
-    omega (arith, some-count 4096 (λ k. anything (shown (slotOf (geometry 2 0 2)) pageOf (inserted 0 (block 1) ∷ []) (4096 * 0 + k))) (record { at = 0; below = omega arith; passes = refl }))
+    let none-due : 0 ≡ live (geometry 0 2 0 2) (inserted 0 (block 1) ∷ []) 0 = right 4200 8192 _ (geometry 0 2 0 2) _ one 0 in
+    omega (arith, some-count 4096 (λ k. anything (shown (slotOf (geometry 0 2 0 2)) pageOf (inserted 0 (block 1) ∷ []) (4096 * 0 + k))) (record { at = 0; below = omega arith; passes = refl }))
 
 pub slots-as-drops : CountsRight dropsDue slotsDue → ⊥
 unfolding marked total insertions
 slots-as-drops right =
-    let all-due : 4 ≡ live (geometry 2 0 2) (inserted 0 (block 1) ∷ []) 0 = right 4200 8192 _ (geometry 2 0 2) _ one 0 in
-    omega (arith, dropped-bound (slotOf (geometry 2 0 2)) pageOf 4 (slot-lt (geometry 2 0 2)) firstOf 4096 in-page its-page (touched 0 ∷ inserted 0 (block 1) ∷ []))
+    let all-due : 4 ≡ live (geometry 0 2 0 2) (inserted 0 (block 1) ∷ []) 0 = right 4200 8192 _ (geometry 0 2 0 2) _ one 0 in
+    omega (arith, dropped-bound (slotOf (geometry 0 2 0 2)) pageOf 4 (slot-lt (geometry 0 2 0 2)) firstOf 4096 in-page its-page (touched 0 ∷ inserted 0 (block 1) ∷ []))

@@ -54,7 +54,7 @@ fn form_and_insert(store: &mut [u8], memory: &[u8]) {
     text(b"  form: ");
     io::print_decimal(
         STDOUT_FILENO,
-        form::form(memory, 0, ROUTINE, &mut record).number(),
+        form::form(0, memory, 0, ROUTINE, &mut record).number(),
     );
     text(b", x10 = ");
     end(bits::doubleword_at(&record, 24));
@@ -65,7 +65,7 @@ fn form_and_insert(store: &mut [u8], memory: &[u8]) {
 // A new store, and the routine that holds the contactor open: formed, inserted and found.
 fn hold(store: &mut [u8], memory: &mut [u8]) {
     text(b"  make: ");
-    end(cache::make(store, 2, 0, 1).number());
+    end(cache::make(store, 0, 2, 0, 1).number());
     write(store, memory, ROUTINE, 4, HOLD);
     write(store, memory, ROUTINE + 4, 2, RETURN);
     lookup(store);

@@ -3,7 +3,7 @@
 use mathlib.Core.Path.{_≡_, refl, sym, subst, _∙_}
 use mathlib.Core.Bool.{Bool, true, false, cond}
 use mathlib.Core.List.{List}
-use Prim.Native.Nat.{ℕ, suc, _+_, _*_, _/_, _%_, _^_, _≤_, _<_}
+use Prim.Native.Nat.{ℕ, suc, _+_, _-_, _*_, _/_, _%_, _^_, _≤_, _<_}
 use native.Mathlib.Omega.{arith}
 use native.Mathlib.Nat.{one-mul, mod-lt, mul-suc, mul-le-mul, mul-le-mul-left}
 use lib.Dec.{eqb, leb, ltb}
@@ -12,9 +12,10 @@ use lib.Pow.{pow-pos, pow-mono, shl-exact}
 use native.Mathlib.Decide.{decLt}
 use borrow.Author.Tests.{leb-true, eqb-true, le-leb, lt-ltb, le-ltb, eq-eqb}
 use Rattle.bits.specs.Bytes.{doublewordAt}
+use Rattle.op.specs.Reading.{readingKnown}
 use Rattle.block.proofs.Places as block
 use Rattle.bits.proofs.Tests.{and-both, not-true}
-use Rattle.store.specs.Layout.{signature, inBounds, front, storeLen, geometry, stated, isStore, opened, Bounded, Fitting, holds, memoryPage, slotOf, placeAt}
+use Rattle.store.specs.Layout.{signature, sized, inBounds, front, storeLen, geometry, stated, isStore, opened, Bounded, Fitting, holds, memoryPage, slotOf, placeAt}
 use Rattle.store.specs.declared.Geometry.{Geometry}
 use Rattle.store.specs.declared.Opened.the-variants.{Sound, NotAStore}
 
@@ -26,14 +27,32 @@ shl-one w e h = shl-exact 1 e w (omega arith) (omega arith) ∙ one-mul (2 ^ e)
 pub after : (z i j : ℕ) → i < j → z * i + z ≤ z * j
 after z i j h = let w : z * suc i ≤ z * j = mul-le-mul-left z h in omega (arith, rw mul-suc at w)
 
-pub signature-is : (e : ℕ) → doublewordAt (signature e) 0 ≡ 0x1_0043_4256 + e * 0x1_0000_0000_0000
-signature-is e = omega arith
+pub signature-is : (reading e : ℕ) → doublewordAt (signature reading e) 0 ≡ 0x1_0043_4256 + reading * 0x100_0000 + e * 0x1_0000_0000_0000
+signature-is reading e = omega arith
 
-pub bounds-are : (e base pages : ℕ) → inBounds e base pages ≡ true → Bounded (geometry e base pages)
-bounds-are e base pages h =
+-- the first eight bytes, in a known reading
+abbrev pub Signed : List ℕ → Type 0
+Signed s = (getD s 3 0 ≤ 1) × (doublewordAt s 0 ≡ doublewordAt (signature (getD s 3 0) (getD s 6 0)) 0)
+
+-- the header's first number without the lowest bit of byte 3: where that bit was the reading, no other is left of the byte
+abbrev pub unread : ℕ → ℕ
+unread first = first - first / 0x100_0000 % 2 * 0x100_0000
+
+pub unread-is : (reading e : ℕ) → reading ≤ 1 → unread (0x1_0043_4256 + reading * 0x100_0000 + e * 0x1_0000_0000_0000) ≡ 0x1_0043_4256 + e * 0x1_0000_0000_0000
+unread-is reading e h = omega arith
+
+pub unread-says : (s : List ℕ) → ((i : ℕ) → getD s i 0 ≤ 255) → unread (doublewordAt s 0) ≡ 0x1_0043_4256 + getD s 6 0 * 0x1_0000_0000_0000
+    → Signed s
+unread-says s byte h =
+    let known : getD s 3 0 ≤ 1 = omega (arith, h, byte 0, byte 1, byte 2, byte 3, byte 4, byte 5, byte 6, byte 7) in
+    (known, omega (arith, h, byte 0, byte 1, byte 2, byte 3, byte 4, byte 5, byte 6, byte 7))
+
+pub sized-are : (reading e base pages : ℕ) → reading ≤ 1 → sized e base pages ≡ true → Bounded (geometry reading e base pages)
+sized-are reading e base pages known h =
     let a = and-both (leb e 14) _ h in
     let memory = block.good-memory {len = 4096 * pages} {base = base} (a .1) in
     record {
+      known = known;
       few = leb-true _ _ (a .0);
       some = omega (arith, memory .least);
       most = omega (arith, memory .most);
@@ -43,24 +62,28 @@ bounds-are e base pages h =
       small = omega arith;
     }
 
+pub bounds-are : (reading e base pages : ℕ) → inBounds reading e base pages ≡ true → Bounded (geometry reading e base pages)
+bounds-are reading e base pages h = let a = and-both (readingKnown reading) _ h in sized-are reading e base pages (leb-true _ _ (a .0)) (a .1)
+
 -- the four tests of the header check
 pub record Header (s : List ℕ) : Type 0 where
   pub long : 32 ≤ length s
-  pub signed : doublewordAt s 0 ≡ doublewordAt (signature (getD s 6 0)) 0
-  pub bounded : inBounds (getD s 6 0) (doublewordAt s 8) (doublewordAt s 16) ≡ true
+  pub signed : Signed s
+  pub bounded : sized (getD s 6 0) (doublewordAt s 8) (doublewordAt s 16) ≡ true
   pub exact : length s ≡ storeLen (stated s)
 
 pub header-is : (s : List ℕ) → isStore s ≡ true → Header s
 unfolding isStore
 header-is s h =
     let a = and-both (leb 32 (length s)) _ h in
-    let b = and-both (eqb (doublewordAt s 0) (doublewordAt (signature (getD s 6 0)) 0)) _ (a .1) in
-    let c = and-both (inBounds (getD s 6 0) (doublewordAt s 8) (doublewordAt s 16)) _ (b .1) in
-    record { long = leb-true _ _ (a .0); signed = eqb-true _ _ (b .0); bounded = c .0; exact = eqb-true _ _ (c .1) }
+    let b = and-both (eqb (doublewordAt s 0) (doublewordAt (signature (getD s 3 0) (getD s 6 0)) 0)) _ (a .1) in
+    let c = and-both (inBounds (getD s 3 0) (getD s 6 0) (doublewordAt s 8) (doublewordAt s 16)) _ (b .1) in
+    let d = and-both (readingKnown (getD s 3 0)) _ (c .0) in
+    record { long = leb-true _ _ (a .0); signed = (leb-true _ _ (d .0), eqb-true _ _ (b .0)); bounded = d .1; exact = eqb-true _ _ (c .1) }
 
 pub is-header : (s : List ℕ) → Header s → isStore s ≡ true
 unfolding isStore
-is-header s h = rw (le-leb 32 (length s) (h .long), eq-eqb _ _ (h .signed), h .bounded) (eq-eqb _ _ (h .exact))
+is-header s h = rw (le-leb 32 (length s) (h .long), eq-eqb _ _ (h .signed .1), le-leb (getD s 3 0) 1 (h .signed .0), h .bounded) (eq-eqb _ _ (h .exact))
 
 pub opened-sound : (s : List ℕ) → Header s → opened s ≡ Sound (stated s)
 unfolding opened
@@ -84,7 +107,7 @@ opened-says s g h = go (isStore s) refl h
     go true e k =
         let q : stated s ≡ g = cc in
         let w = header-is s e in
-        subst (Known s) q (record { fitting = record { bounds = bounds-are _ _ _ (w .bounded); exact = w .exact }; head = w; is = refl })
+        subst (Known s) q (record { fitting = record { bounds = sized-are _ _ _ _ (w .signed .0) (w .bounded); exact = w .exact }; head = w; is = refl })
     go false e k = absurd (let z : _≡_ {A = ℕ} 0 1 = cc in omega arith)
 
 pub slot-lt : (g : Geometry) (a : ℕ) → slotOf g a < 2 ^ g .e

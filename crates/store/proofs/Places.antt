@@ -111,8 +111,8 @@ length-copies zero p z l = sym (mul-zero z)
 length-copies (suc n) p z l = simp length-append (omega (arith, l, length-copies n p z l, mul-suc z n))
 
 -- a header written as four numbers
-pub header-made : (g : Geometry) (s : List ℕ) → g .e ≤ 14 → 32 ≤ length s → patch (patch (patch (patch s 0 (le 8 (0x1_0043_4256 + g .e * 0x1_0000_0000_0000))) 8 (le 8 (g .base))) 16 (le 8 (g .pages))) 24 (le 8 1) ≡ patch s 0 (header g 1)
-header-made g s h l =
+pub header-made : (g : Geometry) (s : List ℕ) → g .reading ≤ 1 → g .e ≤ 14 → 32 ≤ length s → patch (patch (patch (patch s 0 (le 8 (0x1_0043_4256 + g .reading * 0x100_0000 + g .e * 0x1_0000_0000_0000))) 8 (le 8 (g .base))) 16 (le 8 (g .pages))) 24 (le 8 1) ≡ patch s 0 (header g 1)
+header-made g s k h l =
     ap (λ (t : List ℕ). patch (patch (patch t 8 b) 16 p) 24 n) (ap (patch s 0) signed)
     ∙ ap (λ (t : List ℕ). patch (patch t 16 p) 24 n) (sym (patch-append s 0 a b (omega arith)))
     ∙ ap (λ (t : List ℕ). patch t 24 n) (then (a ++ b) 16 p (simp (length-append, length-le)) (omega arith))
@@ -120,7 +120,7 @@ header-made g s h l =
     ∙ ap (patch s 0) (rw (append-assoc, append-assoc))
   where
     a : List ℕ
-    a = signature (g .e)
+    a = signature (g .reading) (g .e)
 
     b : List ℕ
     b = le 8 (g .base)
@@ -136,20 +136,20 @@ header-made g s h l =
         let z : 0 + length front ≡ at = omega arith in
         sym (patch-append s 0 front next (omega arith) ∙ ap (λ (k : ℕ). patch (patch s 0 front) k next) z)
 
-    signed : le 8 (0x1_0043_4256 + g .e * 0x1_0000_0000_0000) ≡ a
+    signed : le 8 (0x1_0043_4256 + g .reading * 0x100_0000 + g .e * 0x1_0000_0000_0000) ≡ a
     signed =
         let top = g .e + 256 * 0 in
         let zero-top = 0 + 256 * top in
         let version = 1 + 256 * zero-top in
-        let reading = 0 + 256 * version in
+        let reading = g .reading + 256 * version in
         let c = 67 + 256 * reading in
         let b-c = 66 + 256 * c in
-        let sums : 0x1_0043_4256 + g .e * 0x1_0000_0000_0000 ≡ 86 + 256 * b-c = omega arith in
+        let sums : 0x1_0043_4256 + g .reading * 0x100_0000 + g .e * 0x1_0000_0000_0000 ≡ 86 + 256 * b-c = omega arith in
         ap (le 8) sums
         ∙ le-cons 7 86 b-c (omega arith)
         (le-cons 6 66 c (omega arith)
         (le-cons 5 67 reading (omega arith)
-        (le-cons 4 0 version (omega arith)
+        (le-cons 4 (g .reading) version (omega arith)
         (le-cons 3 1 zero-top (omega arith)
         (le-cons 2 0 top (omega arith)
         (le-cons 1 (g .e) 0 (omega arith) (le-cons 0 0 0 (omega arith) (le-zero 0))))))))

@@ -18,7 +18,9 @@ use Rattle.bits.specs.Bits.{bit}
 use Rattle.bits.proofs.Bit.{bit-above}
 use Rattle.bits.specs.Bytes.{le, part, patch, doublewordAt}
 use Rattle.bits.proofs.Bytes.{length-le, length-patch, length-part, getD-part, part-same, part-before, part-behind, getD-before, getD-behind, doubleword-le, doubleword-same, doubleword-before}
-use Rattle.store.specs.Layout.{signature, header, inBounds, front, storeLen, geometry, stated, isStore, opened, Bounded, Fitting, placeAt, generationOf, bumped}
+use Rattle.bits.proofs.Tests.{and-both}
+use Rattle.op.specs.Reading.{readingKnown}
+use Rattle.store.specs.Layout.{signature, header, sized, inBounds, front, storeLen, geometry, stated, isStore, opened, Bounded, Fitting, placeAt, generationOf, bumped}
 use Rattle.store.specs.Places.{pageBit, placeIn, putBit, withBit, emptyPlace, vacated, eachPlace, copies, blank}
 use Rattle.store.specs.declared.Geometry.{Geometry}
 use Rattle.store.specs.declared.Opened.{Opened}
@@ -36,18 +38,18 @@ zero-bit : (k : ℕ) → eqb (bit 0 k) 1 ≡ false
 zero-bit k = ne-eqb (bit 0 k) 1 (λ h. omega (arith, bit-above 0 0 k (lit< tt) (omega arith)))
 
 -- the header check reads the length and the first 24 bytes
-openedBy : ℕ → ℕ → ℕ → ℕ → ℕ → Opened
-openedBy n e t b p =
-    cond (leb 32 n && (eqb t (doublewordAt (signature e) 0) && (inBounds e b p && eqb n (storeLen (geometry e b p))))) (Sound (geometry e b p)) NotAStore
+openedBy : ℕ → ℕ → ℕ → ℕ → ℕ → ℕ → Opened
+openedBy n r e t b p =
+    cond (leb 32 n && (eqb t (doublewordAt (signature r e) 0) && (inBounds r e b p && eqb n (storeLen (geometry r e b p))))) (Sound (geometry r e b p)) NotAStore
 
-opened-by : (s : List ℕ) → opened s ≡ openedBy (length s) (getD s 6 0) (doublewordAt s 0) (doublewordAt s 8) (doublewordAt s 16)
+opened-by : (s : List ℕ) → opened s ≡ openedBy (length s) (getD s 3 0) (getD s 6 0) (doublewordAt s 0) (doublewordAt s 8) (doublewordAt s 16)
 unfolding opened isStore openedBy
 opened-by s = refl
 
 pub opened-same : (s z : List ℕ) → length z ≡ length s → ((k : ℕ) → k < 24 → getD z k 0 ≡ getD s k 0) → opened z ≡ opened s
 opened-same s z l same =
     opened-by z
-    ∙ rw (l, word 0 (omega arith), word 8 (omega arith), word 16 (omega arith), same 6 (omega arith)) (sym (opened-by s))
+    ∙ rw (l, word 0 (omega arith), word 8 (omega arith), word 16 (omega arith), same 3 (omega arith), same 6 (omega arith)) (sym (opened-by s))
   where
     word : (k : ℕ) → k + 8 ≤ 24 → doublewordAt z k ≡ doublewordAt s k
     word k h = same-word k z s (λ j a b. same j (omega arith))
@@ -311,19 +313,19 @@ module _ (g : Geometry) (s : List ℕ) (f : Fitting g s) where
   place-flushed = place-blank g (f .bounds) (take 32 s) kept-long
 
 -- a new store
-module _ (e base pages : ℕ) (w : inBounds e base pages ≡ true) where
-  pub header-long : length (header (geometry e base pages) 1) ≡ 32
+module _ (reading e base pages : ℕ) (w : inBounds reading e base pages ≡ true) where
+  pub header-long : length (header (geometry reading e base pages) 1) ≡ 32
   header-long = simp (length-append, length-le)
 
-  pub opened-made : opened (header (geometry e base pages) 1 ++ blank (geometry e base pages)) ≡ Sound (geometry e base pages)
+  pub opened-made : opened (header (geometry reading e base pages) 1 ++ blank (geometry reading e base pages)) ≡ Sound (geometry reading e base pages)
   unfolding le
   opened-made = opened-sound made head ∙ ap Sound is
     where
       g : Geometry
-      g = geometry e base pages
+      g = geometry reading e base pages
 
       b : Bounded g
-      b = bounds-are e base pages w
+      b = bounds-are reading e base pages w
 
       made : List ℕ
       made = header g 1 ++ blank g
@@ -338,25 +340,25 @@ module _ (e base pages : ℕ) (w : inBounds e base pages ≡ true) where
       pages-is = doubleword-le pages [] ∙ mod-eq-of-lt (omega (arith, b .most))
 
       is : stated made ≡ g
-      is = ap₂ (geometry e) base-is pages-is
+      is = ap₂ (geometry reading e) base-is pages-is
 
       head : Header made
       head = record {
         long = let z = front-fits g made fits in omega arith;
-        signed = refl;
-        bounded = ap (λ (k : Geometry). inBounds (k .e) (k .base) (k .pages)) is ∙ w;
+        signed = (b .known, refl);
+        bounded = ap₂ (sized e) base-is pages-is ∙ and-both (readingKnown reading) _ w .1;
         exact = fits .exact ∙ ap storeLen (sym is);
       }
 
-  pub generation-made : generationOf (header (geometry e base pages) 1 ++ blank (geometry e base pages)) ≡ 1
+  pub generation-made : generationOf (header (geometry reading e base pages) 1 ++ blank (geometry reading e base pages)) ≡ 1
   unfolding le
   generation-made = refl
 
-  pub bits-made : (q : ℕ) → q < pages → pageBit (header (geometry e base pages) 1 ++ blank (geometry e base pages)) q ≡ false
-  bits-made = bits-blank (geometry e base pages) (bounds-are e base pages w) (header (geometry e base pages) 1) header-long
+  pub bits-made : (q : ℕ) → q < pages → pageBit (header (geometry reading e base pages) 1 ++ blank (geometry reading e base pages)) q ≡ false
+  bits-made = bits-blank (geometry reading e base pages) (bounds-are reading e base pages w) (header (geometry reading e base pages) 1) header-long
 
-  pub place-made : (i : ℕ) → i < 2 ^ e → placeIn (geometry e base pages) (header (geometry e base pages) 1 ++ blank (geometry e base pages)) i ≡ emptyPlace 1040
-  place-made = place-blank (geometry e base pages) (bounds-are e base pages w) (header (geometry e base pages) 1) header-long
+  pub place-made : (i : ℕ) → i < 2 ^ e → placeIn (geometry reading e base pages) (header (geometry reading e base pages) 1 ++ blank (geometry reading e base pages)) i ≡ emptyPlace 1040
+  place-made = place-blank (geometry reading e base pages) (bounds-are reading e base pages w) (header (geometry reading e base pages) 1) header-long
 
 -- stores of one geometry with the same front and the same places are the same
 module _ (g : Geometry) (s z : List ℕ) (f : Fitting g s) (d : Fitting g z) where

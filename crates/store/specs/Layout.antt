@@ -39,9 +39,12 @@ signature reading e = 86 ∷ 66 ∷ 67 ∷ reading ∷ 1 ∷ 0 ∷ e ∷ 0 ∷ [
 abbrev pub header : Geometry → ℕ → List ℕ
 header g generation = signature (g .reading) (g .e) ++ (le 8 (g .base) ++ (le 8 (g .pages) ++ le 8 generation))
 
--- a known reading, e at most 14, and a memory within the bounds
+-- e at most 14, and a memory within the bounds
+abbrev pub sized : ℕ → ℕ → ℕ → Bool
+sized e base pages = leb e 14 && goodMemory (4096 * pages) base
+
 abbrev pub inBounds : ℕ → ℕ → ℕ → ℕ → Bool
-inBounds reading e base pages = readingKnown reading && (leb e 14 && goodMemory (4096 * pages) base)
+inBounds reading e base pages = readingKnown reading && sized e base pages
 
 -- where the places begin: behind the header, and eight bytes for each begun 64 pages
 abbrev pub front : ℕ → ℕ

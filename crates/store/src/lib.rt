@@ -4,8 +4,8 @@ ghost use mathlib.Core.Bool.{true, cond};
 ghost use mathlib.Core.List.{_++_};
 ghost use Prim.Native.Nat.{_+_, _-_, _*_, _/_, _^_, _≤_, _<_};
 ghost use lib.ListN.{length, take, replicate};
-ghost use Rattle.bits.specs.Bytes.{part, patch};
-ghost use Rattle.store.specs.Layout.{headerLen, header, inBounds, front, storeLen, geometry, stated, opened, Bounded, Fitting, holds, memoryPage, slotOf, placeAt, generationOf, bumped};
+ghost use Rattle.bits.specs.Bytes.{doublewordAt, part, patch};
+ghost use Rattle.store.specs.Layout.{headerLen, header, sized, inBounds, front, storeLen, geometry, stated, opened, Bounded, Fitting, holds, memoryPage, slotOf, placeAt, generationOf, bumped};
 ghost use Rattle.store.specs.Places.{pageBit, putBit, withBit, emptyPlace, inPage, emptied, vacated, eachPlace, placesIn, blank};
 use block::MAX_PAGES;
 use block::PAGE;
@@ -46,13 +46,10 @@ pub enum Opened {
     NotAStore,
 }
 
-// The bounds on the reading, e and memory.
-pub fn in_bounds(reading: u64, e: u64, base: u64, pages: u64) -> bool
-    ensures { λ r. ⌜ r ≡ inBounds reading e base pages ⌝ }
+// The bounds on e and memory.
+fn sized(e: u64, base: u64, pages: u64) -> bool
+    ensures { λ r. ⌜ r ≡ sized e base pages ⌝ }
 {
-    if !op::reading_known(reading) {
-        return false;
-    }
     if 14 < e {
         return false;
     }
@@ -61,6 +58,13 @@ pub fn in_bounds(reading: u64, e: u64, base: u64, pages: u64) -> bool
         return false;
     }
     block::good_memory(PAGE * pages, base)
+}
+
+// The bounds on the reading too.
+pub fn in_bounds(reading: u64, e: u64, base: u64, pages: u64) -> bool
+    ensures { λ r. ⌜ r ≡ inBounds reading e base pages ⌝ }
+{
+    op::reading_known(reading) & sized(e, base, pages)
 }
 
 impl Geometry {
@@ -129,13 +133,21 @@ impl Geometry {
 // What the header's bytes say.
 fn stated(store: &[u8]) -> Geometry
     requires { ⌜ headerLen ≤ length (now store) ⌝ }
-    ensures { λ r. ⌜ (r ≡ stated (now (store .entry))) × ((r .reading ≤ 255) × (r .e ≤ 255)) ⌝ }
+    ensures { λ r. ⌜ (r ≡ stated (now (store .entry))) × (r .e ≤ 255) ⌝ }
 {
     let reading = store[READING_AT] as u64;
     let e = store[E_AT] as u64;
     let base = bits::doubleword_at(store, BASE_AT);
     let pages = bits::doubleword_at(store, PAGES_AT);
     Geometry::new(reading, e, base, pages)
+}
+
+// The header's first eight bytes; read here, they are one load.
+fn first_number(store: &[u8]) -> u64
+    requires { ⌜ headerLen ≤ length (now store) ⌝ }
+    ensures { λ r. ⌜ r ≡ doublewordAt (now (store .entry)) 0 ⌝ }
+{
+    bits::doubleword_at(store, 0)
 }
 
 // The header check: signature, bounds and length. Nothing else in the store is trusted.
@@ -146,10 +158,12 @@ pub fn open(store: &[u8]) -> Opened
         return Opened::NotAStore;
     }
     let g = stated(store);
-    if bits::doubleword_at(store, 0) != SIGNATURE + g.reading * READING_UNIT + g.e * E_UNIT {
+    let first = first_number(store);
+    // Without its lowest bit byte 3 must be 0: that is the bound on the reading.
+    if first - first / READING_UNIT % 2 * READING_UNIT != SIGNATURE + g.e * E_UNIT {
         return Opened::NotAStore;
     }
-    if in_bounds(g.reading, g.e, g.base, g.pages) {
+    if sized(g.e, g.base, g.pages) {
         if store.len() == g.store_len() {
             Opened::Sound(g)
         } else {

@@ -20,8 +20,8 @@ fn reported(answer: ReportAnswer) {
 
 // The length that Make asks for.
 fn length(e: u64, pages: u64) {
-    if store::in_bounds(e, 0, pages) {
-        line(0, Geometry::new(e, 0, pages).store_len() as u64);
+    if store::in_bounds(0, e, 0, pages) {
+        line(0, Geometry::new(0, e, 0, pages).store_len() as u64);
     } else {
         line(2, 0);
     }
@@ -29,8 +29,8 @@ fn length(e: u64, pages: u64) {
 
 // Where the places of two addresses begin: whether they share a slot.
 fn share(e: u64, a: u64, b: u64) {
-    if store::in_bounds(e, 0, 65536) {
-        let g = Geometry::new(e, 0, 65536);
+    if store::in_bounds(0, e, 0, 65536) {
+        let g = Geometry::new(0, e, 0, 65536);
         let first = g.place(a);
         let second = g.place(b);
         line(first as u64, second as u64);
@@ -80,7 +80,7 @@ fn generation(store: &[u8]) {
 fn pages() {
     let mut store = [0u8; 4200];
     let mut memory = [0u8; 8192];
-    line(cache::make(&mut store, 2, 0, 2).number(), 0);
+    line(cache::make(&mut store, 0, 2, 0, 2).number(), 0);
     insert(&mut store, 0);
     insert(&mut store, 0x1002);
     write(&mut store, &mut memory, 0xff8, 8);
@@ -95,7 +95,7 @@ fn pages() {
 // An even address and the next share a slot. The bit stays when a block is displaced, and goes with a notice.
 fn displaced() {
     let mut store = [0u8; 4200];
-    line(cache::make(&mut store, 2, 0, 2).number(), 0);
+    line(cache::make(&mut store, 0, 2, 0, 2).number(), 0);
     insert(&mut store, 0x10);
     insert(&mut store, 0x11);
     lookup(&store, 0x10);
@@ -111,7 +111,7 @@ fn displaced() {
 // The only block of a page is displaced by another page's: all slots are examined, and none of them has a block to drop.
 fn displaced_by_another_page() {
     let mut store = [0u8; 4200];
-    line(cache::make(&mut store, 2, 0, 2).number(), 0);
+    line(cache::make(&mut store, 0, 2, 0, 2).number(), 0);
     insert(&mut store, 0x10);
     insert(&mut store, 0x1010);
     notice(&mut store, 0x10);
@@ -123,7 +123,7 @@ fn displaced_by_another_page() {
 fn refused() {
     let mut store = [0u8; 4200];
     let mut memory = [0u8; 8192];
-    line(cache::make(&mut store, 2, 0, 2).number(), 0);
+    line(cache::make(&mut store, 0, 2, 0, 2).number(), 0);
     lookup(&store, 0x2000);
     notice(&mut store, 0x2000);
     insert(&mut store, 0x2000);
@@ -137,7 +137,50 @@ fn no_store() {
     let mut store = [0u8; 4200];
     generation(&store);
     lookup(&store, 0);
-    line(cache::make(&mut store[..4199], 2, 0, 2).number(), 0);
+    line(cache::make(&mut store[..4199], 0, 2, 0, 2).number(), 0);
+}
+
+// A store is made in either reading, and its byte 3 says which; it serves insertions and lookups in both. There is no third.
+fn made_in(reading: u64) {
+    let mut store = [0u8; 4200];
+    let number = cache::make(&mut store, reading, 2, 0, 2).number();
+    line(number, bits::as_u64(store[3]));
+    insert(&mut store, 0x10);
+    lookup(&store, 0x10);
+}
+
+fn same(a: &[u8], b: &[u8]) -> bool {
+    if a.len() != b.len() {
+        return false;
+    }
+    let mut i = 0;
+    while i < a.len() {
+        if a[i] != b[i] {
+            return false;
+        }
+        i += 1;
+    }
+    true
+}
+
+// A store with a block whose byte 3 becomes 2: no call takes it for a store, and each leaves every byte.
+fn unknown_reading() {
+    let mut store = [0u8; 4200];
+    let mut memory = [0u8; 8192];
+    line(cache::make(&mut store, 1, 2, 0, 2).number(), 0);
+    insert(&mut store, 0);
+    store[3] = 2;
+    let before = store;
+    lookup(&store, 0);
+    insert(&mut store, 0);
+    notice(&mut store, 0);
+    line(cache::flush(&mut store).number(), 0);
+    generation(&store);
+    write(&mut store, &mut memory, 0, 8);
+    line(
+        same(&store, &before) as u64,
+        same(&memory, &[0u8; 8192]) as u64,
+    );
 }
 
 fn main() {
@@ -153,4 +196,8 @@ fn main() {
     displaced_by_another_page();
     refused();
     no_store();
+    made_in(0);
+    made_in(1);
+    made_in(2);
+    unknown_reading();
 }

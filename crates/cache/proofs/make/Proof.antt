@@ -13,7 +13,7 @@ make-spec =
     (λ c κs. search needs) (λ c. search needs)
     (λ c κs.
     let a = c .before .before .before .before .before .before .args in
-    make-fits (a .e) (a .base) (a .pages) (a .store .now) (c .before .before .g .given .0 .0) (sym (c .before .before .before .before .judge-make .ensures) ∙ c .before .before .g .given .1))
+    make-fits (a .reading) (a .e) (a .base) (a .pages) (a .store .now) (c .before .before .g .given .0 .0) (sym (c .before .before .before .before .judge-make .ensures) ∙ c .before .before .g .given .1))
     (λ c. search needs) (λ c. search needs)
     (λ c.
     let done = c .before .before in

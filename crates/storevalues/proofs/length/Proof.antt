@@ -8,7 +8,7 @@ use Rattle.storevalues.proofs.length.Statement.{statement}
 use Rattle.storevalues.proofs.length.Tie as tie
 
 bounds : (c : tie.After-new) → Bounded (c .new .result)
-bounds c = rw (c .new .ensures) (bounds-are _ _ _ (sym (c .before .before .in-bounds .ensures) ∙ c .before .if1 .taken))
+bounds c = rw (c .new .ensures) (bounds-are _ _ _ _ (sym (c .before .before .in-bounds .ensures) ∙ c .before .if1 .taken))
 
 pub length-spec : {M : Type 1} → statement M
 length-spec =
