@@ -3,7 +3,7 @@
 use mathlib.Core.Path.{_≡_, refl, sym, _∙_}
 use mathlib.Core.Bool.{Bool, true, false, cond, not, _&&_, _||_}
 use mathlib.Core.List.{List, [], _∷_}
-use Prim.Native.Nat.{ℕ, _+_, _*_, _<_}
+use Prim.Native.Nat.{ℕ, _+_, _*_, _%_, _<_}
 use native.Mathlib.Omega.{arith}
 use lib.Dec.{eqb}
 use lib.IntN.{pos}
@@ -30,54 +30,75 @@ unary-made kind w a b ea eb e = rw (ea, eb) e
 pub binary-made : (kind : AluKind) (w a b c : ℕ) → a ≡ inst.rd w → b ≡ inst.rs1 w → c ≡ inst.rs2 w → {d : Decoded} → binary kind w ≡ d → Some (AluReg kind a b c) ≡ d
 binary-made kind w a b c ea eb ec e = rw (ea, eb, ec) e
 
--- where a field is the last of three that an entry of words asks for
-three : (x k y l z m : ℕ) → (eqb x k && eqb y l && eqb z m) ≡ true → (y ≡ l) × (z ≡ m)
+-- the three fields that an entry of words asks for
+three : (x k y l z m : ℕ) → (eqb x k && eqb y l && eqb z m) ≡ true → (x ≡ k) × (y ≡ l) × (z ≡ m)
 three x k y l z m h =
     let a = and-both (eqb x k && eqb y l) (eqb z m) h in
     let b = and-both (eqb x k) (eqb y l) (a .0) in
-    (eqb-true y l (b .1), eqb-true z m (a .1))
+    (eqb-true x k (b .0), eqb-true y l (b .1), eqb-true z m (a .1))
+
+-- the fields of a key
+split : (f t low f3 top : ℕ) → t < 0x1000 → low < 4 → top < 0x1000 → f * 0x10000 + t * 0x10 + low ≡ f3 * 0x10000 + top * 0x10 + 3 → (low ≡ 3) × (f ≡ f3) × (t ≡ top)
+split f t low f3 top a b c e =
+    let last : low ≡ 3 = omega arith in
+    let first : f ≡ f3 = omega arith in
+    (last, first, omega arith)
 
 -- opcode 0x13, by the decoder's key
-module _ (w funct3 : ℕ) (is : funct3 ≡ bitsAt w 12 3) where
+module _ (w funct3 : ℕ) (is : funct3 ≡ bitsAt w 12 3) (op : bitsAt w 2 5 ≡ 0x4) where
   abbrev pub immKey : ℕ
-  immKey = funct3 * 0x1000 + bitsAt w 20 12
+  immKey = funct3 * 0x10000 + bitsAt w 20 12 * 0x10 + w % 4
 
-  pub imm-fields : (f3 top : ℕ) → top < 0x1000 → immKey ≡ f3 * 0x1000 + top → (bitsAt w 12 3 ≡ f3) × (bitsAt w 20 12 ≡ top)
-  imm-fields f3 top h e = (omega arith, omega arith)
+  pub imm-fields : (f3 top : ℕ) → top < 0x1000 → immKey ≡ f3 * 0x10000 + top * 0x10 + 3 → (bitsAt w 0 7 ≡ 0x13) × (bitsAt w 12 3 ≡ f3) × (bitsAt w 20 12 ≡ top)
+  imm-fields f3 top h e =
+      let k = split funct3 (bitsAt w 20 12) (w % 4) f3 top (omega arith) (omega arith) h e in
+      (omega (arith, k .0), sym is ∙ k .1, k .2)
 
-  not-imm : (f3 top : ℕ) → (immKey ≡ f3 * 0x1000 + top → ⊥) → imm f3 top w ≡ false
+  not-imm : (f3 top : ℕ) → (immKey ≡ f3 * 0x10000 + top * 0x10 + 3 → ⊥) → imm f3 top w ≡ false
   not-imm f3 top n =
       not-true (imm f3 top w)
       (λ t. let k = three (bitsAt w 0 7) 0x13 (bitsAt w 12 3) f3 (bitsAt w 20 12) top t in n (omega arith))
 
   -- where no entry has the key, the Rust's rows answer
-  pub imm-alike : bitsAt w 0 7 ≡ 0x13
-      → (immKey ≡ 0x1604 → ⊥) → (immKey ≡ 0x1605 → ⊥) → (immKey ≡ 0x1682 → ⊥) → (immKey ≡ 0x1684 → ⊥)
-      → (immKey ≡ 0x5287 → ⊥) → (immKey ≡ 0x56b8 → ⊥) → (immKey ≡ 0x5507 → ⊥) → (immKey ≡ 0x5d48 → ⊥) → (immKey ≡ 0x5d58 → ⊥)
+  pub imm-alike : (immKey ≡ 0x16043 → ⊥) → (immKey ≡ 0x16053 → ⊥) → (immKey ≡ 0x16823 → ⊥) → (immKey ≡ 0x16843 → ⊥)
+      → (immKey ≡ 0x52873 → ⊥) → (immKey ≡ 0x56b83 → ⊥) → (immKey ≡ 0x55073 → ⊥) → (immKey ≡ 0x5d483 → ⊥) → (immKey ≡ 0x5d583 → ⊥)
       → rustWord w ≡ manualWord w
-  imm-alike o a b c d e f g h i =
+  imm-alike a b c d e f g h i =
       words.agree w
-      (rw (not-imm 1 0x604 a, not-imm 1 0x605 b, not-imm 1 0x682 c, not-imm 1 0x684 d, not-imm 5 0x287 e, not-imm 5 0x6b8 f, not-imm 5 0x507 g, not-imm 5 0xd48 h, not-imm 5 0xd58 i, o)
+      (rw (
+        not-imm 1 0x604 a,
+        not-imm 1 0x605 b,
+        not-imm 1 0x682 c,
+        not-imm 1 0x684 d,
+        not-imm 5 0x287 e,
+        not-imm 5 0x6b8 f,
+        not-imm 5 0x507 g,
+        not-imm 5 0xd48 h,
+        not-imm 5 0xd58 i,
+        ne-eqb (bitsAt w 0 7) 0x33 (λ o. omega arith),
+      )
       refl)
 
 -- opcode 0x33
-module _ (w funct3 funct7 : ℕ) (is3 : funct3 ≡ bitsAt w 12 3) (is7 : funct7 ≡ bitsAt w 25 7) where
+module _ (w funct3 funct7 : ℕ) (is3 : funct3 ≡ bitsAt w 12 3) (is7 : funct7 ≡ bitsAt w 25 7) (op : bitsAt w 2 5 ≡ 0xc) where
   abbrev pub regKey : ℕ
-  regKey = funct3 * 0x100 + funct7
+  regKey = funct3 * 0x10000 + funct7 * 0x10 + w % 4
 
-  pub reg-fields : (f3 f7 : ℕ) → f7 < 0x80 → regKey ≡ f3 * 0x100 + f7 → (bitsAt w 12 3 ≡ f3) × (bitsAt w 25 7 ≡ f7)
-  reg-fields f3 f7 h e = (omega arith, omega arith)
+  pub reg-fields : (f3 f7 : ℕ) → f7 < 0x80 → regKey ≡ f3 * 0x10000 + f7 * 0x10 + 3 → (bitsAt w 0 7 ≡ 0x33) × (bitsAt w 12 3 ≡ f3) × (bitsAt w 25 7 ≡ f7)
+  reg-fields f3 f7 h e =
+      let k = split funct3 funct7 (w % 4) f3 f7 (omega arith) (omega arith) (omega arith) e in
+      (omega (arith, k .0), sym is3 ∙ k .1, sym is7 ∙ k .2)
 
-  not-reg : (f3 f7 : ℕ) → (regKey ≡ f3 * 0x100 + f7 → ⊥) → reg f3 f7 w ≡ false
+  not-reg : (f3 f7 : ℕ) → (regKey ≡ f3 * 0x10000 + f7 * 0x10 + 3 → ⊥) → reg f3 f7 w ≡ false
   not-reg f3 f7 n =
       not-true (reg f3 f7 w)
       (λ t. let k = three (bitsAt w 0 7) 0x33 (bitsAt w 12 3) f3 (bitsAt w 25 7) f7 t in n (omega arith))
 
-  pub reg-alike : bitsAt w 0 7 ≡ 0x33 → (regKey ≡ 0x505 → ⊥) → (regKey ≡ 0x605 → ⊥) → rustWord w ≡ manualWord w
-  reg-alike o a b = words.agree w (rw (not-reg 5 5 a, not-reg 6 5 b, o) refl)
+  pub reg-alike : (regKey ≡ 0x50053 → ⊥) → (regKey ≡ 0x60053 → ⊥) → rustWord w ≡ manualWord w
+  reg-alike a b = words.agree w (rw (not-reg 5 5 a, not-reg 6 5 b, ne-eqb (bitsAt w 0 7) 0x13 (λ o. omega arith)) refl)
 
-pub other-alike : (w : ℕ) → (bitsAt w 0 7 ≡ 0x13 → ⊥) → (bitsAt w 0 7 ≡ 0x33 → ⊥) → rustWord w ≡ manualWord w
-other-alike w a b = words.agree w (rw (ne-eqb (bitsAt w 0 7) 0x13 a, ne-eqb (bitsAt w 0 7) 0x33 b) refl)
+pub other-alike : (w : ℕ) → (bitsAt w 2 5 ≡ 0x4 → ⊥) → (bitsAt w 2 5 ≡ 0xc → ⊥) → rustWord w ≡ manualWord w
+other-alike w a b = words.agree w (rw (ne-eqb (bitsAt w 0 7) 0x13 (λ o. a (omega arith)), ne-eqb (bitsAt w 0 7) 0x33 (λ o. b (omega arith))) refl)
 
 -- a halfword, by the decoder's key
 module _ (w quadrant funct3 : ℕ) (is : quadrant ≡ bitsAt w 0 2) (is3 : funct3 ≡ bitsAt w 13 3) where
