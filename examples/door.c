@@ -21,16 +21,16 @@ static void decoded(const char *what, uint64_t number, const uint8_t *record) {
     op("", record);
 }
 
-static void word(const char *what, uint32_t raw) {
+static void word(const char *what, uint64_t reading, uint32_t raw) {
     uint8_t record[UV_OP_RECORD];
     memset(record, 255, sizeof record);
-    decoded(what, uv_decode_word(raw, record, sizeof record), record);
+    decoded(what, uv_decode_word(reading, raw, record, sizeof record), record);
 }
 
-static void halfword(const char *what, uint16_t raw) {
+static void halfword(const char *what, uint64_t reading, uint16_t raw) {
     uint8_t record[UV_OP_RECORD];
     memset(record, 255, sizeof record);
-    decoded(what, uv_decode_halfword(raw, record, sizeof record), record);
+    decoded(what, uv_decode_halfword(reading, raw, record, sizeof record), record);
 }
 
 static void answer(const char *what, uv_answer a) {
@@ -52,25 +52,31 @@ static void yes(const char *what, int so) {
 static void decode_and_compute(void) {
     uint8_t record[UV_OP_RECORD] = {0};
 
-    word("addi a0, zero, 1", 0x00100513);
-    word("ecall: no op, no byte changed", 0x00000073);
-    halfword("c.jr ra", 0x8082);
-    halfword("c.ebreak: no op, no byte changed", 0x9002);
-    decoded("a record of 15 bytes", uv_decode_word(0x00100513, record, 15), record);
+    word("addi a0, zero, 1", UV_READING_RUST, 0x00100513);
+    word("ecall: no op, no byte changed", UV_READING_RUST, 0x00000073);
+    halfword("c.jr ra", UV_READING_RUST, 0x8082);
+    halfword("c.ebreak: no op, no byte changed", UV_READING_RUST, 0x9002);
+    word("minu a0, a1, a2: the Rust's max", UV_READING_RUST, 0x0AC5D533);
+    word("minu a0, a1, a2: the manual's", UV_READING_MANUAL, 0x0AC5D533);
+    halfword("c.lwsp with rd 0: the Rust's lw", UV_READING_RUST, 0x4002);
+    halfword("c.lwsp with rd 0: the manual's", UV_READING_MANUAL, 0x4002);
+    word("a reading that is none", 2, 0x00100513);
+    decoded("a record of 15 bytes", uv_decode_word(UV_READING_RUST, 0x00100513, record, 15), record);
     answer("sra of 2^63 by 1", uv_alu(UV_ALU_SRA, UINT64_C(1) << 63, 1));
     answer("addw of 0x7FFFFFFF and 1", uv_alu(UV_ALU_ADDW, 0x7FFFFFFF, 1));
     answer("mul: refused", uv_alu(UV_ALU_MUL, 6, 7));
 }
 
-/* A block is formed, kept, found, and dropped by a write to its page. */
+/* A block is formed, kept, found, and dropped by a write to its page: store and blocks in one reading. */
 static void round_of_the_cache(void) {
-    enum { E = 2, PAGES = 2, BASE = 0x1000, ROUTINE = 0x1006 };
+    enum { READING = UV_READING_MANUAL, E = 2, PAGES = 2, BASE = 0x1000, ROUTINE = 0x1006 };
     static uint8_t memory[PAGES * UV_PAGE] = {0, 0, 0, 0, 0, 0, 0x13, 0x05, 0x10, 0x00, 0x82, 0x80}; /* addi a0, zero, 1; c.jr ra */
     static uint8_t store[UV_STORE(E, PAGES)];
     uint8_t record[UV_BLOCK_RECORD];
 
-    number("make 4 slots over 2 pages", uv_make(store, sizeof store, E, BASE, PAGES));
-    number("form the routine's block", uv_form(memory, sizeof memory, BASE, ROUTINE, record, sizeof record));
+    number("make 4 slots over 2 pages", uv_make(store, sizeof store, READING, E, BASE, PAGES));
+    number("form the routine's block", uv_form(READING, memory, sizeof memory, BASE, ROUTINE, record, sizeof record));
+    yes("  in the store's reading", store[UV_HEADER_AT_READING] == READING);
     op("  its first op ", record + UV_BLOCK_AT_OPS);
     op("  its second op", record + UV_BLOCK_AT_OPS + UV_OP_RECORD);
     answer("lookup: not there yet", uv_lookup(store, sizeof store, ROUTINE));
@@ -93,7 +99,7 @@ static void round_of_the_cache(void) {
     answer("lookup: gone", uv_lookup(store, sizeof store, ROUTINE));
     report("write past the end: refused", uv_guest_write(store, sizeof store, memory, sizeof memory, 0x2FFF, 2, 0));
 
-    number("form: c.nop now, and no c.jr", uv_form(memory, sizeof memory, BASE, ROUTINE, record, sizeof record));
+    number("form: c.nop now, and no c.jr", uv_form(READING, memory, sizeof memory, BASE, ROUTINE, record, sizeof record));
     op("  its second op", record + UV_BLOCK_AT_OPS + UV_OP_RECORD);
     number("insert", uv_insert(store, sizeof store, ROUTINE, record, sizeof record));
     report("notice of a write elsewhere", uv_notice(store, sizeof store, 0x2000));

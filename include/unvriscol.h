@@ -20,9 +20,9 @@
 #include <stddef.h>
 #include <stdint.h>
 
-/* This header's version, as one number that grows: 200 is 0.2.0. */
+/* This header's version, as one number that grows: 300 is 0.3.0. */
 #define UNVRISCOL_VERSION_MAJOR 0
-#define UNVRISCOL_VERSION_MINOR 2
+#define UNVRISCOL_VERSION_MINOR 3
 #define UNVRISCOL_VERSION_PATCH 0
 #define UNVRISCOL_VERSION (10000 * UNVRISCOL_VERSION_MAJOR + 100 * UNVRISCOL_VERSION_MINOR + UNVRISCOL_VERSION_PATCH)
 
@@ -35,7 +35,7 @@ extern "C" {
 /* The numbers. On every one but UV_DONE each value beside it is 0, and no lent byte has changed. */
 #define UV_DONE 0           /* done, or a hit */
 #define UV_NO_STORE 1       /* the store's length or header is not a store's */
-#define UV_GEOMETRY 2       /* memory or e outside the bounds below, or memory length not that of the store */
+#define UV_GEOMETRY 2       /* reading, memory or e outside the bounds below, or memory length not that of the store */
 #define UV_OUTSIDE_MEMORY 3 /* an address, or any byte of a write, outside memory */
 #define UV_NOTHING_THERE 4  /* no block forms there; the word or halfword has no op */
 #define UV_ILL_FORMED 5     /* block record not well formed for the address */
@@ -63,6 +63,13 @@ typedef struct {
 #define UV_MAX_PAGES 65536                /* guest memory is 1 to so many whole pages, from a base that is a multiple of UV_PAGE */
 #define UV_MEMORY_END ((uint64_t)1 << 56) /* base + length is at most this */
 #define UV_MAX_E 14                       /* a store has 2^e slots, e from 0 to this */
+
+/* ---- The readings (docs/FORMATS.md, "Readings"): what words and halfwords decode to; UV_GEOMETRY is the answer to any other number
+ *
+ * They part at the encodings of docs/DIFFERENCES.md alone, MINU among them. A store has one reading, and its blocks are to be formed in that one. */
+
+#define UV_READING_RUST 0   /* as the Rust core decodes */
+#define UV_READING_MANUAL 1 /* as the RISC-V manual says */
 
 /* ---- The op record (docs/FORMATS.md, "The op record"): numbers are little-endian, and a field that the op lacks is 0 */
 
@@ -144,7 +151,8 @@ enum uv_branch_kind {
 #define UV_HEADER 32
 #define UV_STORE_VERSION 1
 
-#define UV_HEADER_AT_NAME 0        /* 'V', 'B', 'C' and a zero */
+#define UV_HEADER_AT_NAME 0        /* 'V', 'B', 'C' */
+#define UV_HEADER_AT_READING 3     /* 1 byte */
 #define UV_HEADER_AT_VERSION 4     /* 2 bytes: UV_STORE_VERSION */
 #define UV_HEADER_AT_E 6           /* 1 byte, and a zero */
 #define UV_HEADER_AT_BASE 8        /* 8 bytes */
@@ -165,25 +173,28 @@ enum uv_branch_kind {
 
 /* ---- The calls (docs/FORMATS.md, "What the calls do"); where several refusals would do, the first in the order given is answered */
 
-/* Decode into a record of UV_OP_RECORD bytes, with pc_off 0. Refusals: 6, 4. */
-uint64_t uv_decode_word(uint32_t raw, uint8_t *record, size_t record_len);
-uint64_t uv_decode_halfword(uint16_t raw, uint8_t *record, size_t record_len);
+/* Decode in a reading into a record of UV_OP_RECORD bytes, with pc_off 0. Refusals: 2, 6, 4. */
+uint64_t uv_decode_word(uint64_t reading, uint32_t raw, uint8_t *record, size_t record_len);
+uint64_t uv_decode_halfword(uint64_t reading, uint16_t raw, uint8_t *record, size_t record_len);
 
 /* What the ALU kind of that number makes of two operands; the value is the result. Refusal: 7. */
 uv_answer uv_alu(uint64_t kind, uint64_t lhs, uint64_t rhs);
 
-/* Form the block at an address of guest memory, which is whole pages from base on, into a record of UV_BLOCK_RECORD bytes. The address may be odd.
- * Where a block ends: docs/FORMATS.md, "Forming". Refusals: 2, 6, 3, 4. */
-uint64_t uv_form(const uint8_t *memory, size_t memory_len, uint64_t base, uint64_t address, uint8_t *record, size_t record_len);
+/* Form in a reading the block at an address of guest memory, which is whole pages from base on, into a record of UV_BLOCK_RECORD bytes. The address
+ * may be odd. Where a block ends: docs/FORMATS.md, "Forming". Refusals: 2, 6, 3, 4. */
+uint64_t uv_form(uint64_t reading, const uint8_t *memory, size_t memory_len, uint64_t base, uint64_t address, uint8_t *record,
+                 size_t record_len);
 
-/* Make a store of UV_STORE(e, pages) bytes, whatever they were, for the memory that is so many pages from base on. Refusals: 2, 1. */
-uint64_t uv_make(uint8_t *store, size_t store_len, uint64_t e, uint64_t base, uint64_t pages);
+/* Make a store of UV_STORE(e, pages) bytes, whatever they were, for blocks in a reading of the memory that is so many pages from base on.
+ * Refusals: 2, 1. */
+uint64_t uv_make(uint8_t *store, size_t store_len, uint64_t reading, uint64_t e, uint64_t base, uint64_t pages);
 
 /* Look the block at an address up; the value is where in the store its UV_BLOCK_RECORD bytes begin. They are to be read there, and are that record
  * until the next call that changes the store: uv_make, uv_insert, uv_notice, uv_flush or uv_guest_write. Refusals: 1, 9. */
 uv_answer uv_lookup(const uint8_t *store, size_t store_len, uint64_t address);
 
-/* Insert the record of the block at an address, in the place of whatever its slot held. Refusals: 1, 6, 3, 5. */
+/* Insert the record of the block at an address, in the place of whatever its slot held. The record does not say in which reading it was formed, so
+ * that is not judged. Refusals: 1, 6, 3, 5. */
 uint64_t uv_insert(uint8_t *store, size_t store_len, uint64_t address, const uint8_t *record, size_t record_len);
 
 /* Tell the cache of a write at an address, after the write and before the next lookup: the blocks of its page are dropped. A write that crosses into

@@ -1,15 +1,23 @@
-// The values on forming (docs/FORMATS.md, Values), through the public call, and three listings of one input.
-// A line of the first part: the number, the record's address, count, byte_len, and the first op's number. A record starts as 170s.
+// The values on forming (docs/FORMATS.md, Values), through the public call, and three listings of one input in the Rust's reading.
+// A line of the first part: the number, the record's address, count, byte_len, and the first op's number and kind. A record starts as 170s.
 use lines::number;
 
-fn formed(page: &[u8], base: u64, address: u64) {
+// The readings, and a number that is none.
+const RUST: u64 = 0;
+
+const MANUAL: u64 = 1;
+
+const NONE: u64 = 2;
+
+fn formed(reading: u64, page: &[u8], base: u64, address: u64) {
     let mut lent = [170u8; 1040];
-    let answer = form::form(page, base, address, &mut lent);
+    let answer = form::form(reading, page, base, address, &mut lent);
     number(answer.number(), b' ');
     number(bits::doubleword_at(&lent, 0), b' ');
     number(bits::halfword_at(&lent, 8) as u64, b' ');
     number(bits::halfword_at(&lent, 10) as u64, b' ');
-    number(bits::as_u64(lent[16]), b'\n');
+    number(bits::as_u64(lent[16]), b' ');
+    number(bits::as_u64(lent[17]), b'\n');
 }
 
 fn page_of(low: u8, high: u8) -> [u8; 4096] {
@@ -22,17 +30,22 @@ fn page_of(low: u8, high: u8) -> [u8; 4096] {
 // Two bytes at the page's end.
 fn at_end(low: u8, high: u8, address: u64) {
     let page = page_of(low, high);
-    formed(&page, 0x1000, address);
+    formed(RUST, &page, 0x1000, address);
 }
 
-// One word at the page's start.
-fn at_start(raw: u32) {
+// One word at the page's start, in a reading.
+fn at_start(reading: u64, raw: u32) {
     let mut page = [0u8; 4096];
     page[0] = (raw % 256) as u8;
     page[1] = (raw / 0x100 % 256) as u8;
     page[2] = (raw / 0x1_0000 % 256) as u8;
     page[3] = (raw / 0x100_0000 % 256) as u8;
-    formed(&page, 0x1000, 0x1000);
+    formed(reading, &page, 0x1000, 0x1000);
+}
+
+fn in_both(raw: u32) {
+    at_start(RUST, raw);
+    at_start(MANUAL, raw);
 }
 
 fn halfwords() {
@@ -42,15 +55,15 @@ fn halfwords() {
         page[i * 2] = 1;
         i += 1;
     }
-    formed(&page, 0x1000, 0x1000);
-    formed(&page, 0x1000, 0x1080);
+    formed(RUST, &page, 0x1000, 0x1000);
+    formed(RUST, &page, 0x1000, 0x1080);
 }
 
 // A record of another length.
-fn short() {
+fn short(reading: u64) {
     let page = [0u8; 4096];
     let mut lent = [170u8; 1039];
-    let answer = form::form(&page, 0, 0, &mut lent);
+    let answer = form::form(reading, &page, 0, 0, &mut lent);
     number(answer.number(), b' ');
     number(bits::as_u64(lent[0]), b'\n');
 }
@@ -60,18 +73,27 @@ fn main() {
     at_end(0x01, 0x00, 0x1ffe);
     at_end(0x01, 0x00, 0x1fff);
     halfwords();
-    at_start(0x0000_0073);
-    at_start(0x0000_000f);
-    at_start(0x0000_100f);
+    in_both(0x0000_0073);
+    in_both(0x0000_000f);
+    in_both(0x0000_100f);
+    // MINU, MAX, SEXT.B and what the Rust reads as it; then C.NOP and C.LWSP with rd 0, which is reserved, and the other way round
+    in_both(0x0ac5_d533);
+    in_both(0x0ac5_e533);
+    in_both(0x6045_1513);
+    in_both(0x6825_1513);
+    in_both(0x4002_0001);
+    in_both(0x0001_4002);
+    at_start(NONE, 0x0ac5_d533);
     at_end(0x01, 0x00, 0x0fff);
     at_end(0x01, 0x00, 0x2000);
     let page = [0u8; 4096];
-    formed(&page, 0x800, 0x800);
-    formed(&page[1..], 0, 0);
-    formed(&page, 0xff_ffff_ffff_f000, 0xff_ffff_ffff_f000);
-    formed(&page, 0x100_0000_0000_0000, 0);
-    short();
-    lines::list_input();
-    lines::list_input();
-    lines::list_input();
+    formed(RUST, &page, 0x800, 0x800);
+    formed(RUST, &page[1..], 0, 0);
+    formed(RUST, &page, 0xff_ffff_ffff_f000, 0xff_ffff_ffff_f000);
+    formed(RUST, &page, 0x100_0000_0000_0000, 0);
+    short(RUST);
+    short(NONE);
+    lines::list_input(RUST);
+    lines::list_input(RUST);
+    lines::list_input(RUST);
 }

@@ -1,4 +1,4 @@
-// Writes the blocks of one page to standard output, as docs/FORMATS.md, The listing, has them.
+// Writes the blocks of one page in a reading to standard output, as docs/FORMATS.md, The listing, has them.
 ghost use mathlib.Core.Path.{_≡_};
 ghost use Prim.Native.Nat.{_<_};
 ghost use lib.ListN.{length};
@@ -55,11 +55,11 @@ fn op_lines(record: &[u8], count: usize)
 }
 
 // The lines of the block at an offset of the page, and how many bytes it has; 0 where none forms.
-fn block_lines(page: &[u8], at: u64) -> u64
+fn block_lines(reading: u64, page: &[u8], at: u64) -> u64
     ensures { λ r. ⌜ r < 65536 ⌝ }
 {
     let mut record = [0u8; 1040];
-    let Answer::Done = form::form(page, 0, at, &mut record) else {
+    let Answer::Done = form::form(reading, page, 0, at, &mut record) else {
         return 0;
     };
     let count = bits::halfword_at(&record, 8);
@@ -78,10 +78,10 @@ fn end_line(at: u64) {
 }
 
 // Each turn lists a block of at least one byte, so the offset grows up to the page's end.
-pub fn list(page: &[u8]) {
+pub fn list(reading: u64, page: &[u8]) {
     let mut at: u64 = 0;
     while at < block::PAGE {
-        let len = block_lines(page, at);
+        let len = block_lines(reading, page, at);
         if len == 0 {
             end_line(at);
             return;
@@ -92,8 +92,8 @@ pub fn list(page: &[u8]) {
 }
 
 // Lists the page that standard input gives, its rest zero.
-pub fn list_input() {
+pub fn list_input(reading: u64) {
     let mut page = io::buffer();
     io::read_full(STDIN_FILENO, &mut page);
-    list(&page);
+    list(reading, &page);
 }

@@ -1,4 +1,4 @@
-// Runs the Rust's own answers again: host/compare wrote them down (`cargo run --release -p compare -- --replay ../crates/replay` in host/), and this
+// Runs the Rust's own answers again, and the manual's: host/compare wrote them down (`cargo run --release -p compare -- --replay ../crates/replay` in host/), and this
 // program needs no Rust. It makes the same calls and prints how many entries it found the same. The input is 16 pages of memory, and then entries of
 // 40 bytes; host/compare/src/replay.rs says what they hold.
 ghost use mathlib.Core.Path.{_≡_};
@@ -88,30 +88,30 @@ fn next(input: u64) -> Taken
     }
 }
 
-fn halfword(digest: u64, raw: u16) -> u64
+fn halfword(reading: u64, digest: u64, raw: u16) -> u64
     requires { ⌜ digest < 2 ^ 32 ⌝ }
     ensures { λ r. ⌜ r < 2 ^ 32 ⌝ }
 {
     let mut lent = [170u8; 16];
-    let answer = decode::decode_halfword(raw, &mut lent);
+    let answer = decode::decode_halfword(reading, raw, &mut lent);
     with_answer(digest, answer.number(), &lent)
 }
 
-fn word(digest: u64, raw: u32) -> u64
+fn word(reading: u64, digest: u64, raw: u32) -> u64
     requires { ⌜ digest < 2 ^ 32 ⌝ }
     ensures { λ r. ⌜ r < 2 ^ 32 ⌝ }
 {
     let mut lent = [170u8; 16];
-    let answer = decode::decode_word(raw, &mut lent);
+    let answer = decode::decode_word(reading, raw, &mut lent);
     with_answer(digest, answer.number(), &lent)
 }
 
-fn formed(digest: u64, memory: &[u8], address: u64) -> u64
+fn formed(reading: u64, digest: u64, memory: &[u8], address: u64) -> u64
     requires { ⌜ digest < 2 ^ 32 ⌝ }
     ensures { λ r. ⌜ r < 2 ^ 32 ⌝ }
 {
     let mut lent = [170u8; 1040];
-    let answer = form::form(memory, BASE, address, &mut lent);
+    let answer = form::form(reading, memory, BASE, address, &mut lent);
     with_answer(digest, answer.number(), &lent)
 }
 
@@ -123,9 +123,13 @@ fn called(entry: Entry, i: u64, memory: &[u8], digest: u64) -> u64
     let tag = entry.tag;
     let at = std::num::wrapping_add_u64(entry.a, i);
     match tag {
-        0 => halfword(digest, (at % 0x1_0000) as u16),
-        1 => word(digest, (entry.a % 0x200_0000 + i * 0x200_0000) as u32),
-        _ => formed(digest, memory, at),
+        0 => halfword(entry.small, digest, (at % 0x1_0000) as u16),
+        1 => word(
+            entry.small,
+            digest,
+            (entry.a % 0x200_0000 + i * 0x200_0000) as u32,
+        ),
+        _ => formed(entry.small, digest, memory, at),
     }
 }
 
@@ -170,9 +174,15 @@ fn lookup(entry: Entry, store: &[u8]) -> bool {
 // Forms a block and inserts it.
 fn insert(entry: Entry, memory: &[u8], store: &mut [u8]) -> bool {
     let mut record = [0u8; 1040];
-    form::form(memory, BASE, entry.a, &mut record);
+    form::form(entry.small, memory, BASE, entry.a, &mut record);
     let answer = cache::insert(store, entry.a, &record);
     both(entry, answer.number(), 0)
+}
+
+// A new store, in the reading that the entry has for a value.
+fn make(entry: Entry, store: &mut [u8]) -> bool {
+    let answer = cache::make(store, entry.value, entry.small, entry.a, entry.b);
+    answer.number() == entry.number
 }
 
 fn notice(entry: Entry, store: &mut [u8]) -> bool {
@@ -202,11 +212,7 @@ fn same(entry: Entry, memory: &mut [u8], store: &mut [u8]) -> bool {
     match tag {
         0 | 1 | 2 => run(entry, memory),
         3 => alu(entry),
-        4 => both(
-            entry,
-            cache::make(store, entry.small, entry.a, entry.b).number(),
-            0,
-        ),
+        4 => make(entry, store),
         5 => lookup(entry, store),
         6 => insert(entry, memory, store),
         7 => notice(entry, store),
@@ -266,11 +272,11 @@ fn main() {
     let mut input = with_bytes(0, &memory[..n]);
     // 2^8 slots and 16 pages.
     let mut store = [0u8; 266_280];
-    input = replay(b"halfwords ", 512, input, &mut memory, &mut store);
-    input = replay(b"words ", 1152, input, &mut memory, &mut store);
-    input = replay(b"blocks ", 96, input, &mut memory, &mut store);
+    input = replay(b"halfwords ", 1025, input, &mut memory, &mut store);
+    input = replay(b"words ", 2305, input, &mut memory, &mut store);
+    input = replay(b"blocks ", 193, input, &mut memory, &mut store);
     input = replay(b"alu ", 1098, input, &mut memory, &mut store);
-    input = replay(b"cache ", 1929, input, &mut memory, &mut store);
+    input = replay(b"cache ", 1956, input, &mut memory, &mut store);
     // Any one byte that was changed, left out or added changes this.
     io::write_all(STDOUT_FILENO, b"input ");
     io::print_decimal(STDOUT_FILENO, next(input).input);

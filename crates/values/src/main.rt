@@ -2,6 +2,13 @@
 // A line of decoding shows a call's number and the lent bytes afterwards, which start as 170s; a line of the ALU the number and the value.
 use libc::STDOUT_FILENO;
 
+// The readings, and a number that is none.
+const RUST: u64 = 0;
+
+const MANUAL: u64 = 1;
+
+const NONE: u64 = 2;
+
 fn line(number: u64, lent: &[u8]) {
     io::print_decimal(STDOUT_FILENO, number);
     let mut i = 0;
@@ -13,22 +20,22 @@ fn line(number: u64, lent: &[u8]) {
     io::write_all(STDOUT_FILENO, b"\n");
 }
 
-fn halfword(raw: u16) {
+fn halfword(reading: u64, raw: u16) {
     let mut lent = [170u8; 16];
-    let answer = decode::decode_halfword(raw, &mut lent);
+    let answer = decode::decode_halfword(reading, raw, &mut lent);
     line(answer.number(), &lent);
 }
 
-fn word(raw: u32) {
+fn word(reading: u64, raw: u32) {
     let mut lent = [170u8; 16];
-    let answer = decode::decode_word(raw, &mut lent);
+    let answer = decode::decode_word(reading, raw, &mut lent);
     line(answer.number(), &lent);
 }
 
-// A buffer of another length is refused ahead of anything else.
-fn short(raw: u32) {
+// A buffer of another length is refused ahead of anything but the reading.
+fn short(reading: u64, raw: u32) {
     let mut lent = [170u8; 15];
-    let answer = decode::decode_word(raw, &mut lent);
+    let answer = decode::decode_word(reading, raw, &mut lent);
     line(answer.number(), &lent);
 }
 
@@ -41,17 +48,47 @@ fn alu(kind: u64, lhs: u64, rhs: u64) {
 }
 
 fn main() {
-    halfword(0x0000);
-    halfword(0x9002);
-    halfword(0x8082);
-    word(0x0010_0513);
-    word(0xfff0_0513);
-    word(0x6825_1513);
-    word(0x6045_1513);
-    word(0x6b85_5513);
-    word(0x2875_5513);
-    short(0x0010_0513);
-    short(0x6045_1513);
+    halfword(RUST, 0x0000);
+    halfword(RUST, 0x9002);
+    halfword(RUST, 0x8082);
+    word(RUST, 0x0010_0513);
+    word(RUST, 0xfff0_0513);
+    word(RUST, 0x6825_1513);
+    word(RUST, 0x6045_1513);
+    word(RUST, 0x6b85_5513);
+    word(RUST, 0x2875_5513);
+    word(RUST, 0x0ac5_d533);
+    word(RUST, 0x0ac5_e533);
+    // The same, in the manual's reading; one more of each entry that it has no op for; and what both read the same
+    word(MANUAL, 0x6825_1513);
+    word(MANUAL, 0x6045_1513);
+    word(MANUAL, 0x6b85_5513);
+    word(MANUAL, 0x2875_5513);
+    word(MANUAL, 0x0ac5_d533);
+    word(MANUAL, 0x0ac5_e533);
+    word(MANUAL, 0x6055_1513);
+    word(MANUAL, 0x6845_1513);
+    word(MANUAL, 0xd585_5513);
+    word(MANUAL, 0xd485_5513);
+    word(MANUAL, 0x5075_5513);
+    word(MANUAL, 0x0010_0513);
+    // One reserved halfword of each entry
+    halfword(RUST, 0x4002);
+    halfword(MANUAL, 0x2001);
+    halfword(MANUAL, 0x6101);
+    halfword(MANUAL, 0x6081);
+    halfword(MANUAL, 0x4002);
+    halfword(MANUAL, 0x6002);
+    halfword(MANUAL, 0x8002);
+    halfword(MANUAL, 0x8082);
+    short(RUST, 0x0010_0513);
+    short(RUST, 0x6045_1513);
+    short(MANUAL, 0x6045_1513);
+    // No reading, ahead of the rest
+    word(NONE, 0x0010_0513);
+    halfword(NONE, 0x8082);
+    short(NONE, 0x0010_0513);
+    short(0xffff_ffff_ffff_ffff, 0x0010_0513);
     // Sra, Addw, Clz, Clzw, OrcB, Sll by 64; then multiply, the last divide, and no kind at all
     alu(7, 0x8000_0000_0000_0000, 1);
     alu(10, 0x7fff_ffff, 1);

@@ -1,17 +1,23 @@
 //! Forming and the cache: rows whose calls change something, so that each pass is made ready first.
-use crate::work::{Calls, Side, Target, Work};
+use crate::work::{Calls, READ, Side, Target, Work};
 use oracle::block::{self, Block, BlockCache};
 use oracle::system_bus::FlatMemory;
 use std::hint::black_box;
-use unvriscol::door;
+use unvriscol::{Reading, door};
 
 const PAGE: usize = 4096;
 const RECORD: usize = 1040;
 
-/// An image in the original's own memory and in plain bytes, from address 0 on, with its blocks in the order in which a hart would meet them.
+/// An image in the original's own memory and in plain bytes, from address 0 on, with its blocks in each reading.
 struct Image {
     bus: FlatMemory,
     bytes: Vec<u8>,
+    walks: [Walk; 2],
+}
+
+/// The blocks of an image in one reading, in the order in which a hart would meet them.
+#[derive(Default)]
+struct Walk {
     starts: Vec<u64>,
     ops: usize,
 }
@@ -23,33 +29,36 @@ impl Image {
         let bytes: Vec<u8> = image.iter().copied().cycle().take(len).collect();
         let mut bus = FlatMemory::new(len);
         bus.load_at(0, &bytes);
-        let (mut starts, mut ops, mut at) = (Vec::new(), 0, 0);
-        while at + 1 < len as u64 {
-            match block::decode_block(&mut bus, at) {
-                Some(block) => {
-                    starts.push(at);
-                    ops += block.ops.len();
-                    at += u64::from(block.byte_len);
+        let walks = Reading::ALL.map(|reading| {
+            let (mut walk, mut at) = (Walk::default(), 0);
+            while at + 1 < len as u64 {
+                match unvriscol::form(reading, &bytes, 0, at) {
+                    Ok(block) => {
+                        walk.starts.push(at);
+                        walk.ops += block.ops.len();
+                        at += u64::from(block.byte_len);
+                    }
+                    Err(_) => at += 2,
                 }
-                None => at += 2,
             }
-        }
-        Self {
-            bus,
-            bytes,
-            starts,
-            ops,
-        }
+            walk
+        });
+        Self { bus, bytes, walks }
+    }
+
+    fn walk(&self, reading: Reading) -> &Walk {
+        &self.walks[reading as usize]
     }
 
     fn pages(&self) -> u64 {
         (self.bytes.len() / PAGE) as u64
     }
 
-    fn form(&self, address: u64, record: &mut [u8; RECORD]) -> u64 {
+    fn form(&self, reading: Reading, address: u64, record: &mut [u8; RECORD]) -> u64 {
         // SAFETY: each pointer and length are those of one slice or array, lent for the call.
         unsafe {
             door::uv_form(
+                reading.number(),
                 self.bytes.as_ptr(),
                 self.bytes.len(),
                 0,
@@ -65,20 +74,21 @@ impl Image {
 struct Form(Image);
 
 impl Calls for Form {
-    fn len(&self) -> usize {
-        self.0.ops
+    fn len(&self, side: Side) -> usize {
+        self.0.walk(side.reading()).ops
     }
 
     fn pass(&mut self, side: Side) -> u64 {
         let mut formed = 0;
         let mut record = [0; RECORD];
-        for at in 0..self.0.starts.len() {
-            let address = self.0.starts[at];
+        let reading = side.reading();
+        for at in 0..self.0.walk(reading).starts.len() {
+            let address = self.0.walk(reading).starts[at];
             formed += match side {
                 Side::Rust => {
                     u64::from(black_box(block::decode_block(&mut self.0.bus, address)).is_some())
                 }
-                _ => u64::from(self.0.form(address, black_box(&mut record)) == 0),
+                _ => u64::from(self.0.form(reading, address, black_box(&mut record)) == 0),
             };
         }
         formed
@@ -121,6 +131,7 @@ impl Cache {
         let mut slots = vec![false; 1 << e];
         let mut pages = vec![false; image.pages() as usize];
         let addresses: Vec<u64> = image
+            .walk(Reading::Rust)
             .starts
             .iter()
             .copied()
@@ -139,7 +150,7 @@ impl Cache {
             .iter()
             .map(|&address| {
                 let mut record = [0; RECORD];
-                image.form(address, &mut record);
+                image.form(Reading::Rust, address, &mut record);
                 record
             })
             .collect();
@@ -166,6 +177,7 @@ impl Cache {
             door::uv_make(
                 self.store.as_mut_ptr(),
                 self.store.len(),
+                Reading::Rust.number(),
                 self.e,
                 0,
                 self.pages,
@@ -231,7 +243,7 @@ fn rust_notice(cache: &mut BlockCache, address: u64) {
 }
 
 impl Calls for Cache {
-    fn len(&self) -> usize {
+    fn len(&self, _: Side) -> usize {
         match self.deed {
             Deed::Flush | Deed::Make => 1,
             _ => self.addresses.len(),
@@ -273,7 +285,7 @@ impl Calls for Cache {
                 }
                 0
             }
-            (Deed::NoticeUnmarked | Deed::NoticeMarked, Side::Ours) => {
+            (Deed::NoticeUnmarked | Deed::NoticeMarked, Side::Ours | Side::Manual) => {
                 let (at, len) = (self.store.as_mut_ptr(), self.store.len());
                 self.addresses
                     .iter()
@@ -296,14 +308,14 @@ impl Calls for Cache {
                 self.rust.flush_all();
                 0
             }
-            (Deed::Flush, Side::Ours) => unsafe {
+            (Deed::Flush, Side::Ours | Side::Manual) => unsafe {
                 door::uv_flush(self.store.as_mut_ptr(), self.store.len())
             },
             (Deed::Make, Side::Rust) => {
                 self.rust = BlockCache::new();
                 0
             }
-            (Deed::Make, Side::Ours) => self.make(),
+            (Deed::Make, Side::Ours | Side::Manual) => self.make(),
             (Deed::Flush | Deed::Make, Side::Floor) => {
                 black_box(&mut self.store[..]).fill(0);
                 0
@@ -326,7 +338,7 @@ const FLOOR: &[Side] = &[Side::Rust, Side::Floor, Side::Ours];
 pub fn rows(image: &[u8]) -> Vec<Work> {
     let mut rows = vec![Work {
         name: "form, per op".into(),
-        sides: RUST,
+        sides: READ,
         target: Some(Target {
             over: Side::Rust,
             most: 0.7,

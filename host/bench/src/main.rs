@@ -16,7 +16,8 @@ use work::{Calls, Side, Target, Work};
 const USAGE: &str = "\
 usage: bench [--instructions] [--image FILE].. [ROW]..
 
-Times Unvriscol's C functions and the original Rust's side by side: nanoseconds per call, of the best of many rounds.
+Times Unvriscol's C functions and the original Rust's side by side: nanoseconds per call, of the best of many rounds. Ours is in the Rust reading;
+where a call has a reading, ours in the manual's stands beside it.
 
   --instructions  count instructions by callgrind instead, which do not depend on the machine's load (needs valgrind)
   --image FILE    the words, halfwords and blocks of a file, repeated to 64 pages or more, in place of made ones; may be given often, for a table each
@@ -94,15 +95,15 @@ fn table(plan: &Plan, image: Option<&Given>) -> Result<(), String> {
         "ns"
     };
     println!(
-        "| {unit} per call | Rust | floor | ours | ours over Rust | ours over floor | target (time) |"
+        "| {unit} per call | Rust | floor | ours | ours over Rust | ours over floor | target (time) | ours, manual's | over ours |"
     );
-    println!("|---|---|---|---|---|---|---|");
+    println!("|---|---|---|---|---|---|---|---|---|");
     for (at, work) in rows.iter_mut().enumerate() {
         if !plan.rows.is_empty() && !plan.rows.iter().any(|row| work.name.contains(row)) {
             continue;
         }
-        if work.calls.len() == 0 {
-            println!("| {} | | | | | | none in the image |", work.name);
+        if work.calls.len(Side::Ours) == 0 {
+            println!("| {} | | | | | | none in the image | | |", work.name);
             continue;
         }
         let costs = if plan.instructions {
@@ -116,16 +117,15 @@ fn table(plan: &Plan, image: Option<&Given>) -> Result<(), String> {
 }
 
 /// A side's cost of one pass; none where the row lacks the side.
-type Costs = [Option<f64>; 3];
+type Costs = [Option<f64>; Side::COUNT];
 
 fn line(work: &Work, costs: Costs) -> String {
-    let calls = work.calls.len() as f64;
-    let cost = |side: Side| costs[side as usize];
-    let each = |side| cost(side).map_or(String::new(), |cost| format!("{:.1}", cost / calls));
-    let over = |side| {
-        let ratio = cost(Side::Ours)
-            .zip(cost(side))
-            .map(|(ours, cost)| ours / cost)
+    let cost = |side: Side| Some(costs[side as usize]? / work.calls.len(side) as f64);
+    let each = |side| cost(side).map_or(String::new(), |cost| format!("{cost:.1}"));
+    let over = |one, other| {
+        let ratio = cost(one)
+            .zip(cost(other))
+            .map(|(one, other)| one / other)
             // A pass of a few calls can be shorter than the clock tells.
             .filter(|ratio| ratio.is_finite());
         ratio.map_or(String::new(), |ratio| format!("{ratio:.2}"))
@@ -142,13 +142,15 @@ fn line(work: &Work, costs: Costs) -> String {
         None => String::new(),
     };
     format!(
-        "| {} | {} | {} | {} | {} | {} | {target} |",
+        "| {} | {} | {} | {} | {} | {} | {target} | {} | {} |",
         work.name,
         each(Side::Rust),
         each(Side::Floor),
         each(Side::Ours),
-        over(Side::Rust),
-        over(Side::Floor)
+        over(Side::Ours, Side::Rust),
+        over(Side::Ours, Side::Floor),
+        each(Side::Manual),
+        over(Side::Manual, Side::Ours)
     )
 }
 
@@ -161,7 +163,7 @@ fn bench_measured(calls: &mut dyn Calls, side: Side) -> u64 {
 
 /// Nanoseconds for one pass on each side, in the best round.
 fn timed(work: &mut Work) -> Costs {
-    let mut best = [None; 3];
+    let mut best = [None; Side::COUNT];
     for _ in 0..ROUNDS {
         for &side in work.sides {
             work.calls.prepare(side);
@@ -178,7 +180,7 @@ fn timed(work: &mut Work) -> Costs {
 
 /// Instructions for one pass on each side, counted by callgrind on this program itself.
 fn counted(row: usize, work: &Work, image: Option<&Given>) -> Result<Costs, String> {
-    let mut counts = [None; 3];
+    let mut counts = [None; Side::COUNT];
     for &side in work.sides {
         let run = Command::new("valgrind")
             .args([

@@ -4,6 +4,7 @@ use oracle::block::{self, AluKind};
 use oracle::made;
 use oracle::random::Random;
 use std::hint::black_box;
+use unvriscol::Reading;
 use unvriscol::door::{uv_alu, uv_decode_halfword, uv_decode_word};
 
 #[derive(Clone, Copy, PartialEq)]
@@ -12,10 +13,21 @@ pub enum Side {
     /// The least that the work can cost: the loads or the stores that it must make.
     Floor,
     Ours,
+    /// Ours, in the manual's reading.
+    Manual,
 }
 
 impl Side {
-    pub const ALL: [Self; 3] = [Self::Rust, Self::Floor, Self::Ours];
+    pub const COUNT: usize = 4;
+    pub const ALL: [Self; Self::COUNT] = [Self::Rust, Self::Floor, Self::Ours, Self::Manual];
+
+    /// The reading of our calls.
+    pub fn reading(self) -> Reading {
+        match self {
+            Self::Manual => Reading::Manual,
+            _ => Reading::Rust,
+        }
+    }
 }
 
 /// The most that ours may take, over another side.
@@ -28,7 +40,7 @@ pub struct Target {
 /// The calls of a row.
 pub trait Calls {
     /// How many a pass makes.
-    fn len(&self) -> usize;
+    fn len(&self, side: Side) -> usize;
     /// What a pass needs beforehand, which is not measured.
     fn prepare(&mut self, _: Side) {}
     /// Makes every call once.
@@ -46,16 +58,19 @@ pub struct Work {
 
 const BOTH: &[Side] = &[Side::Rust, Side::Ours];
 
+/// The sides of a row that has a reading.
+pub const READ: &[Side] = &[Side::Rust, Side::Ours, Side::Manual];
+
 struct Words(Vec<u32>);
 
 impl Calls for Words {
-    fn len(&self) -> usize {
+    fn len(&self, _: Side) -> usize {
         self.0.len()
     }
     fn pass(&mut self, side: Side) -> u64 {
         match side {
             Side::Rust => decoded(&self.0, block::WORD),
-            _ => recorded(&self.0, uv_decode_word),
+            _ => recorded(&self.0, side, uv_decode_word),
         }
     }
 }
@@ -63,13 +78,13 @@ impl Calls for Words {
 struct Halfwords(Vec<u16>);
 
 impl Calls for Halfwords {
-    fn len(&self) -> usize {
+    fn len(&self, _: Side) -> usize {
         self.0.len()
     }
     fn pass(&mut self, side: Side) -> u64 {
         match side {
             Side::Rust => decoded(&self.0, block::HALFWORD),
-            _ => recorded(&self.0, uv_decode_halfword),
+            _ => recorded(&self.0, side, uv_decode_halfword),
         }
     }
 }
@@ -77,7 +92,7 @@ impl Calls for Halfwords {
 struct Alu(Vec<(AluKind, u64, u64)>);
 
 impl Calls for Alu {
-    fn len(&self) -> usize {
+    fn len(&self, _: Side) -> usize {
         self.0.len()
     }
     fn pass(&mut self, side: Side) -> u64 {
@@ -103,12 +118,17 @@ fn decoded<C: Copy>(calls: &[C], original: fn(C) -> Option<block::Op>) -> u64 {
 }
 
 #[inline(always)]
-fn recorded<C: Copy>(calls: &[C], ours: unsafe extern "C" fn(C, *mut u8, usize) -> u64) -> u64 {
+fn recorded<C: Copy>(
+    calls: &[C],
+    side: Side,
+    ours: unsafe extern "C" fn(u64, C, *mut u8, usize) -> u64,
+) -> u64 {
+    let reading = side.reading().number();
     let mut ops = 0;
     let mut record = [0; 16];
     for &raw in calls {
         // SAFETY: pointer and length of one array, lent for the call.
-        let number = unsafe { ours(raw, record.as_mut_ptr(), record.len()) };
+        let number = unsafe { ours(reading, raw, record.as_mut_ptr(), record.len()) };
         black_box(&record);
         ops += u64::from(number == 0);
     }
@@ -169,20 +189,22 @@ pub fn rows(image: Option<&[u8]>) -> Vec<Work> {
             (words, halfwords, made::image(1 << 18, &mut random))
         }
     };
-    let row = |name: &str, target, calls| Work {
+    let row = |name: &str, sides, target, calls| Work {
         name: name.into(),
-        sides: BOTH,
+        sides,
         target,
         calls,
     };
     let mut rows = vec![
         row(
             "decode a word",
+            READ,
             target(0.95),
             Box::new(Words(words)) as Box<dyn Calls>,
         ),
         row(
             "decode a halfword",
+            READ,
             target(0.95),
             Box::new(Halfwords(halfwords)),
         ),
@@ -194,7 +216,7 @@ pub fn rows(image: Option<&[u8]>) -> Vec<Work> {
                 (kind, random.wide(), random.wide())
             })
             .collect();
-        rows.push(row(name, target(1.2), Box::new(Alu(calls))));
+        rows.push(row(name, BOTH, target(1.2), Box::new(Alu(calls))));
     }
     rows.extend(cache::rows(&image));
     rows

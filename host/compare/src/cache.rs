@@ -1,5 +1,6 @@
 //! Histories of cache calls: against the model at every slot count, with refusals and stores that were scribbled on; and against the original's
 //! `BlockCache` at its own.
+use crate::decode::NO_READING;
 use crate::form::record_of;
 use crate::model::{self, OP, OPS, PAGE, RECORD, Report, Shape};
 use crate::{Plan, Tally};
@@ -80,9 +81,12 @@ impl Call {
         // SAFETY: each pointer and length are those of one slice, lent for the call.
         unsafe {
             match self {
-                Self::Make(Shape { e, base, pages }) => {
-                    door::uv_make(at, len, *e, *base, *pages).into()
-                }
+                Self::Make(Shape {
+                    reading,
+                    e,
+                    base,
+                    pages,
+                }) => door::uv_make(at, len, *reading, *e, *base, *pages).into(),
                 Self::Lookup(address) => door::uv_lookup(at, len, *address).into(),
                 Self::Insert(address, record) => {
                     door::uv_insert(at, len, *address, record.as_ptr(), record.len()).into()
@@ -339,10 +343,18 @@ impl Draw {
             _ if self.random.below(4) != 0 => Call::Generation,
             _ => {
                 let mut shape = self.shape;
-                match self.random.below(8) {
+                match self.random.below(12) {
                     0 => shape.e = self.one(&[15, 64, 256, u64::MAX, shape.e ^ 1]),
                     1 => shape.pages = self.one(&[0, 65_537, 1 << 52, 1 << 60, shape.pages + 64]),
                     2 => shape.base = self.one(&[1, 2048, 1 << 56, u64::MAX - 4095]),
+                    3 => shape.reading = self.one(&NO_READING),
+                    4 => shape.reading = self.random.wide(),
+                    5 => {
+                        // With a length that is wrong too.
+                        shape.reading = self.one(&NO_READING);
+                        shape.e ^= 1;
+                    }
+                    6..9 => shape.reading ^= 1,
                     _ => {}
                 }
                 Call::Make(shape)
@@ -360,7 +372,7 @@ impl Draw {
         let mut number = |at: usize, number: u64| {
             store[at..at + 8].copy_from_slice(&number.to_le_bytes());
         };
-        match self.random.below(12) {
+        match self.random.below(13) {
             0 => number(24, self.random.wide()),
             1 => number(24, u64::MAX),
             2 => number(8, self.random.wide()),
@@ -368,6 +380,7 @@ impl Draw {
             4 => number(16, pages ^ 1 << self.random.below(20)),
             5 => store[self.random.below(24) as usize] ^= 1 << self.random.below(8),
             6 => store[6] = self.random.below(16) as u8,
+            12 => store[3] = self.one(&[0, 1, 1, 2, 3, 128, 255]),
             7 => {
                 store[32 + self.random.below(front as u64 - 32) as usize] = self.random.next() as u8
             }
@@ -460,7 +473,12 @@ pub fn histories(plan: &Plan, tally: &mut Tally) {
             (65_536, 0),
             (65_536, (1 << 56) - 65_536 * PAGE),
         ] {
-            let shape = Shape { e, base, pages };
+            let shape = Shape {
+                reading: (part / 2) % 2,
+                e,
+                base,
+                pages,
+            };
             let lent = shape.store_len() as u64 + (pages * PAGE).min(1 << 20);
             let calls = (budget / 7 / lent).clamp(40, 50_000);
             for scribbled in [false, true] {
@@ -505,7 +523,12 @@ pub fn original(plan: &Plan, tally: &mut Tally) {
         .into_iter()
         .enumerate()
     {
-        let shape = Shape { e: 14, base, pages };
+        let shape = Shape {
+            reading: 0,
+            e: 14,
+            base,
+            pages,
+        };
         let mut random = Random::new(plan.seed, 0x200 + part as u64);
         let memory = made::image((pages * PAGE) as usize, &mut random);
         let mut draw = Draw::new(random, shape, &memory);

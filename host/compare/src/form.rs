@@ -1,10 +1,12 @@
-//! Forming: the number, the record byte for byte, and the bytes around it, at every offset of made, random and given images.
+//! Forming in each reading: the number, the record byte for byte, and the bytes around it, at every offset of made, random and given images.
+use crate::decode::NO_READING;
 use crate::model::{PAGE, RECORD, Shape};
-use crate::{Plan, Tally, record};
-use oracle::block::{self, Block};
+use crate::{Plan, Tally, manual, record};
+use oracle::block::{self, Block, DecodedInsn, Op};
 use oracle::bus::Plain;
 use oracle::made;
 use oracle::random::Random;
+use unvriscol::Reading;
 use unvriscol::door::uv_form;
 
 /// The original's block as a block record.
@@ -24,10 +26,66 @@ pub fn record_of(block: &Block, address: u64) -> [u8; RECORD] {
     bytes
 }
 
-/// The checks in the order of docs/FORMATS.md, "Orders of checks", and then the original.
-fn expected(bus: &mut Plain, address: u64, lent: &mut [u8]) -> u64 {
+/// What words and halfwords read as.
+type Decoders = (fn(u32) -> Option<Op>, fn(u16) -> Option<Op>);
+
+const RUST: Decoders = (block::WORD, block::HALFWORD);
+const MANUAL: Decoders = (manual::word, manual::halfword);
+
+/// The block at an address by docs/FORMATS.md, "Forming", with given decoders: the original's loop is for its own alone.
+fn formed(bus: &Plain, address: u64, (word, halfword): Decoders) -> Option<Block> {
+    let from = (address - bus.base) as usize;
+    let s = &bus.bytes[from..from + (PAGE - address % PAGE) as usize];
+    let (mut ops, mut at) = (Vec::new(), 0);
+    while ops.len() < 64
+        && let Some(&low) = s[at..].first_chunk()
+    {
+        let low = u16::from_le_bytes(low);
+        let (op, ilen) = if low & 3 != 3 {
+            let Some(op) = halfword(low) else { break };
+            (op, 2)
+        } else {
+            let Some(&raw) = s[at..].first_chunk() else {
+                break;
+            };
+            let raw = u32::from_le_bytes(raw);
+            let op = word(raw);
+            let stops = matches!((raw & 0x7f, raw >> 12 & 7), (0x73, 0) | (0x0f, 1));
+            if op.is_none() && stops {
+                break;
+            }
+            (op.unwrap_or(Op::Fallback { raw }), 4)
+        };
+        let ends = matches!(op, Op::Jal { .. } | Op::Jalr { .. });
+        let pc_off = at as u16;
+        ops.push(DecodedInsn { op, pc_off, ilen });
+        at += usize::from(ilen);
+        if ends {
+            break;
+        }
+    }
+    (!ops.is_empty()).then_some(Block {
+        ops: ops.into(),
+        byte_len: at as u32,
+    })
+}
+
+/// The block in a reading: the original's, or the model's of the manual.
+pub fn block_of(reading: Reading, bus: &mut Plain, address: u64) -> Option<Block> {
+    match reading {
+        Reading::Rust => block::decode_block(bus, address),
+        Reading::Manual => formed(bus, address, MANUAL),
+    }
+}
+
+/// The checks in the order of docs/FORMATS.md, "Orders of checks", and then the block.
+fn expected(reading: u64, bus: &mut Plain, address: u64, lent: &mut [u8]) -> u64 {
+    let Some(&known) = Reading::ALL.get(reading as usize) else {
+        return 2;
+    };
     let len = bus.bytes.len() as u64;
     let shape = Shape {
+        reading,
         e: 0,
         base: bus.base,
         pages: len / PAGE,
@@ -41,7 +99,7 @@ fn expected(bus: &mut Plain, address: u64, lent: &mut [u8]) -> u64 {
     if !shape.holds(address) {
         return 3;
     }
-    match block::decode_block(bus, address) {
+    match block_of(known, bus, address) {
         Some(block) => {
             lent.copy_from_slice(&record_of(&block, address));
             0
@@ -50,10 +108,11 @@ fn expected(bus: &mut Plain, address: u64, lent: &mut [u8]) -> u64 {
     }
 }
 
-pub fn ours(memory: &[u8], base: u64, address: u64, lent: &mut [u8]) -> u64 {
+fn ours(reading: u64, memory: &[u8], base: u64, address: u64, lent: &mut [u8]) -> u64 {
     // SAFETY: each pointer and length are those of one slice, lent for the call; the second is lent alone.
     unsafe {
         uv_form(
+            reading,
             memory.as_ptr(),
             memory.len(),
             base,
@@ -68,12 +127,13 @@ const AROUND: usize = 16;
 const BEFORE: u8 = 0xA5;
 
 /// One call on a record of `len` bytes with bytes around it.
-fn one(bus: &mut Plain, address: u64, len: usize, tally: &mut Tally) {
+fn one(reading: u64, bus: &mut Plain, address: u64, len: usize, tally: &mut Tally) {
     const MOST: usize = AROUND + RECORD + 8 + AROUND;
     let (mut left, mut right) = ([BEFORE; MOST], [BEFORE; MOST]);
-    let number = expected(bus, address, &mut left[AROUND..AROUND + len]);
+    let number = expected(reading, bus, address, &mut left[AROUND..AROUND + len]);
     tally.expects(number);
     let answer = ours(
+        reading,
         &bus.bytes,
         bus.base,
         address,
@@ -81,18 +141,25 @@ fn one(bus: &mut Plain, address: u64, len: usize, tally: &mut Tally) {
     );
     tally.expect(answer == number && left == right, || {
         format!(
-            "form at {address:#x} of {} bytes from {:#x} on: the Rust gives {number} {left:x?}, ours {answer} {right:x?}",
+            "form at {address:#x} of {} bytes from {:#x} on in reading {reading}: {number} {left:x?} is expected, ours {answer} {right:x?}",
             bus.bytes.len(),
             bus.base
         )
     });
 }
 
-/// Every address of a memory, odd ones too.
-fn everywhere(bus: &mut Plain, tally: &mut Tally) {
+/// Every address of a memory, odd ones too. The model's loop with the original's decoders is held to the original's.
+fn everywhere(reading: Reading, bus: &mut Plain, tally: &mut Tally) {
     let before = bus.bytes.clone();
     for offset in 0..bus.bytes.len() as u64 {
-        one(bus, bus.base + offset, RECORD, tally);
+        let address = bus.base + offset;
+        one(reading.number(), bus, address, RECORD, tally);
+        if reading == Reading::Rust {
+            let model = formed(bus, address, RUST).map(|block| record_of(&block, address));
+            let original = block::decode_block(bus, address);
+            let same = model == original.map(|block| record_of(&block, address));
+            tally.expect(same, || format!("the model of forming at {address:#x}"));
+        }
     }
     tally.expect(bus.bytes == before, || "forming changed memory".into());
 }
@@ -103,7 +170,7 @@ fn highest(len: usize) -> u64 {
 }
 
 /// Given images at every address; made and random ones of several pages at the lowest, a usual and the highest base.
-pub fn images(plan: &Plan, tally: &mut Tally) {
+fn images(reading: Reading, plan: &Plan, tally: &mut Tally) {
     let mut random = Random::new(plan.seed, 6);
     for (name, image) in &plan.images {
         let mut bytes = image.clone();
@@ -111,6 +178,7 @@ pub fn images(plan: &Plan, tally: &mut Tally) {
         let pages = bytes.len() / PAGE as usize;
         println!("image {name}: length {}, pages {pages}", image.len());
         everywhere(
+            reading,
             &mut Plain {
                 bytes,
                 base: 0x8000_0000,
@@ -122,6 +190,7 @@ pub fn images(plan: &Plan, tally: &mut Tally) {
         for pages in [1, 2, 3, 9] {
             let len = pages * PAGE as usize;
             let bytes = match round % 3 {
+                0 if reading == Reading::Manual => manual::image(len, &mut random),
                 0 => made::image(len, &mut random),
                 1 => (0..len).map(|_| random.next() as u8).collect(),
                 // Code among zeros and bytes at random, with words over the page ends.
@@ -135,12 +204,20 @@ pub fn images(plan: &Plan, tally: &mut Tally) {
                     .collect(),
             };
             let base = [0, 0x8000_0000, highest(len)][round / 3 % 3];
-            everywhere(&mut Plain { bytes, base }, tally);
+            everywhere(reading, &mut Plain { bytes, base }, tally);
         }
     }
 }
 
-/// Lengths, bases, addresses and record lengths that are refused, and several of them together; no byte changes.
+pub fn rust_images(plan: &Plan, tally: &mut Tally) {
+    images(Reading::Rust, plan, tally);
+}
+
+pub fn manual_images(plan: &Plan, tally: &mut Tally) {
+    images(Reading::Manual, plan, tally);
+}
+
+/// Readings, lengths, bases, addresses and record lengths that are refused, and several of them together; no byte changes.
 pub fn refusals(plan: &Plan, tally: &mut Tally) {
     let mut random = Random::new(plan.seed, 7);
     let longest = 65_536 * PAGE as usize;
@@ -178,7 +255,10 @@ pub fn refusals(plan: &Plan, tally: &mut Tally) {
                 .chain([base ^ 1 << 63, base.wrapping_add(PAGE - 2), base ^ 1 << 56]);
             for address in addresses {
                 for record in [RECORD, 0, 16, RECORD - 1, RECORD + 1] {
-                    one(&mut bus, address, record, tally);
+                    let none = NO_READING[random.below(7) as usize];
+                    for reading in [0, 1, none] {
+                        one(reading, &mut bus, address, record, tally);
+                    }
                 }
             }
         }

@@ -4,6 +4,7 @@ mod alu;
 mod cache;
 mod decode;
 mod form;
+mod manual;
 mod model;
 mod record;
 mod replay;
@@ -19,8 +20,9 @@ const USAGE: &str = "\
 usage: compare [--all] [--seed N] [--image FILE].. [PART]..
        compare --replay FOLDER
 
-Holds Unvriscol's answers against the original Rust's: numbers, values and every lent byte. The last line counts them. The exit status is 1 where
-any differs, and 2 where the command line is not as above.
+Holds Unvriscol's answers against the original Rust's: numbers, values and every lent byte; in the manual's reading against the entries of
+docs/DIFFERENCES.md, and the Rust's outside them. The last line counts them. The exit status is 1 where any differs, and 2 where the command line is
+not as above.
 
   --all            every word, and more of the rest; without it about a minute
   --seed N         the random part from another seed than 1
@@ -51,12 +53,15 @@ impl Plan {
 
 type Part = (&'static str, fn(&Plan, &mut Tally));
 
-const PARTS: [Part; 9] = [
-    ("halfwords", decode::halfwords),
-    ("words", decode::words),
-    ("records of other lengths", decode::lengths),
+const PARTS: [Part; 12] = [
+    ("halfwords", decode::rust_halfwords),
+    ("halfwords, the manual's", decode::manual_halfwords),
+    ("words", decode::rust_words),
+    ("words, the manual's", decode::manual_words),
+    ("decoding, refused", decode::refusals),
     ("ALU", alu::run),
-    ("forming", form::images),
+    ("forming", form::rust_images),
+    ("forming, the manual's", form::manual_images),
     ("forming, refused", form::refusals),
     ("cache calls, by the model", cache::histories),
     ("cache calls, by the Rust's", cache::original),

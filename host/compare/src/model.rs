@@ -15,9 +15,10 @@ pub struct Report {
     pub dropped: u64,
 }
 
-/// What a store's header says: the exponent of the slot count, the memory's base and its pages.
+/// What a store's header says: the reading, the exponent of the slot count, the memory's base and its pages.
 #[derive(Clone, Copy, Debug)]
 pub struct Shape {
+    pub reading: u64,
     pub e: u64,
     pub base: u64,
     pub pages: u64,
@@ -25,11 +26,17 @@ pub struct Shape {
 
 impl Shape {
     pub fn in_bounds(self) -> bool {
-        let Self { e, base, pages } = self;
+        let Self {
+            reading,
+            e,
+            base,
+            pages,
+        } = self;
         let end = pages
             .checked_mul(PAGE)
             .and_then(|len| base.checked_add(len));
-        e <= 14
+        reading <= 1
+            && e <= 14
             && (1..=65_536).contains(&pages)
             && base % PAGE == 0
             && end.is_some_and(|end| end <= 1 << 56)
@@ -86,7 +93,8 @@ impl Shape {
 
     fn header(self, generation: u64) -> [u8; 32] {
         let mut header = [0; 32];
-        header[..8].copy_from_slice(&[b'V', b'B', b'C', 0, 1, 0, self.e as u8, 0]);
+        let reading = self.reading as u8;
+        header[..8].copy_from_slice(&[b'V', b'B', b'C', reading, 1, 0, self.e as u8, 0]);
         header[8..16].copy_from_slice(&self.base.to_le_bytes());
         header[16..24].copy_from_slice(&self.pages.to_le_bytes());
         header[24..].copy_from_slice(&generation.to_le_bytes());
@@ -115,6 +123,7 @@ pub fn opened(store: &[u8]) -> Result<Shape, u64> {
         return Err(1);
     }
     let shape = Shape {
+        reading: store[3].into(),
         e: store[6].into(),
         base: number(store, 8),
         pages: number(store, 16),

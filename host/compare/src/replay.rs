@@ -1,20 +1,21 @@
-//! Writes down the Rust's own answers for crates/replay, whose program makes the same calls without any Rust and counts the answers that are the
-//! same. `--replay crates/replay` writes what the program reads, `stdin`, and what it is to print, `stdout`.
+//! Writes down the Rust's own answers for crates/replay, and beside them the manual's as docs/DIFFERENCES.md tells them. Its program makes the same
+//! calls without any Rust and counts the answers that are the same. `--replay crates/replay` writes what the program reads, `stdin`, and what it is to print, `stdout`.
 //!
 //! First 16 pages of memory, then entries of 40 bytes: tag (1), number (1), a small argument (2), digest (4), two arguments, a value, which of a notice
-//! and a write is the slots examined, and beside it the places dropped (8 each).
+//! and a write is the slots examined, and beside it the places dropped (8 each). The reading is the small argument of a run and of an insertion, and
+//! the value of Make.
 //! A run is 128 calls with one digest over each call's number and lent bytes, which are 170 beforehand.
 use crate::cache::{pages_of, reported, store_of};
-use crate::form::record_of;
+use crate::form::{block_of, record_of};
 use crate::model::{PAGE, RECORD, Report, Shape};
-use crate::{alu, record};
+use crate::{alu, manual, record};
 use oracle::block::{self, BlockCache, Op};
 use oracle::bus::Plain;
-use oracle::made;
 use oracle::mmu::Mmu;
 use oracle::random::Random;
 use std::io;
 use std::path::Path;
+use unvriscol::Reading;
 
 const RUN: u64 = 128;
 const BEFORE: u8 = 170;
@@ -23,6 +24,7 @@ const PAGES: u64 = 16;
 /// The original's cache has 2^14 slots, which is more than the program can keep. At `address` two addresses share a slot of 2^8 exactly when they
 /// share one of 2^14, so that its answers are those of a store of 2^8.
 const SHAPE: Shape = Shape {
+    reading: Reading::Rust as u64,
     e: 8,
     base: 0x8000_0000,
     pages: PAGES,
@@ -119,25 +121,41 @@ fn decoded(digest: Digest, op: Option<Op>, ilen: u8) -> Digest {
     }
 }
 
-/// A run: call i of it gives what `one` adds to the digest.
-fn run(tag: Tag, first: u64, one: impl FnMut(Digest, u64) -> Digest) -> Entry {
+/// A run in a reading: call i of it gives what `one` adds to the digest.
+fn run(tag: Tag, reading: Reading, first: u64, one: impl FnMut(Digest, u64) -> Digest) -> Entry {
     Entry {
+        small: reading as u16,
         a: first,
         digest: (0..RUN).fold(Digest(0), one),
         ..Entry::new(tag)
     }
 }
 
-/// Every halfword.
+/// A run in a reading that is none: each call answers 2, and its record of so many bytes stays.
+fn no_reading(tag: Tag, first: u64, len: usize) -> Entry {
+    let refused = |digest: Digest, _| digest.answer(2, &vec![BEFORE; len]);
+    Entry {
+        small: 2,
+        ..run(tag, Reading::Rust, first, refused)
+    }
+}
+
+/// Every halfword in each reading.
 fn halfwords() -> Vec<Entry> {
-    (0..1 << 16)
-        .step_by(RUN as usize)
-        .map(|first| {
-            run(Tag::Halfwords, first, |digest, i| {
-                decoded(digest, (block::HALFWORD)((first + i) as u16), 2)
+    let mut entries = Vec::new();
+    for reading in Reading::ALL {
+        let decoder = match reading {
+            Reading::Rust => block::HALFWORD,
+            Reading::Manual => manual::halfword,
+        };
+        entries.extend((0..1 << 16).step_by(RUN as usize).map(|first| {
+            run(Tag::Halfwords, reading, first, |digest, i| {
+                decoded(digest, decoder((first + i) as u16), 2)
             })
-        })
-        .collect()
+        }));
+    }
+    entries.push(no_reading(Tag::Halfwords, 0x8000, record::LEN));
+    entries
 }
 
 /// A run for each of the 2^7 low bits and each funct3, over every funct7; for the immediates that are opcodes (0x13 and 0x1b, funct3 1 and 5) one
@@ -153,32 +171,41 @@ fn words(random: &mut Random) -> Vec<Entry> {
             }
         }
     }
-    firsts
-        .into_iter()
-        .map(|first| {
-            run(Tag::Words, first, |digest, i| {
-                decoded(digest, (block::WORD)((first | i << 25) as u32), 4)
+    let mut entries = Vec::new();
+    for reading in Reading::ALL {
+        let decoder = match reading {
+            Reading::Rust => block::WORD,
+            Reading::Manual => manual::word,
+        };
+        entries.extend(firsts.iter().map(|&first| {
+            run(Tag::Words, reading, first, |digest, i| {
+                decoded(digest, decoder((first | i << 25) as u32), 4)
             })
-        })
-        .collect()
+        }));
+    }
+    entries.push(no_reading(Tag::Words, 0x0000_0013, record::LEN));
+    entries
 }
 
-/// Every address of the first, one other and the last page.
+/// Every address of the first, one other and the last page, in each reading.
 fn forms(bus: &mut Plain) -> Vec<Entry> {
     let mut entries = Vec::new();
-    for page in [0, 7, PAGES - 1] {
-        for first in (page * PAGE..(page + 1) * PAGE).step_by(RUN as usize) {
-            let first = bus.base + first;
-            entries.push(run(
-                Tag::Forms,
-                first,
-                |digest, i| match block::decode_block(bus, first + i) {
+    for reading in Reading::ALL {
+        for page in [0, 7, PAGES - 1] {
+            for first in (page * PAGE..(page + 1) * PAGE).step_by(RUN as usize) {
+                let first = bus.base + first;
+                entries.push(run(Tag::Forms, reading, first, |digest, i| match block_of(
+                    reading,
+                    bus,
+                    first + i,
+                ) {
                     Some(block) => digest.answer(0, &record_of(&block, first + i)),
                     None => digest.answer(4, &[BEFORE; RECORD]),
-                },
-            ));
+                }));
+            }
         }
     }
+    entries.push(no_reading(Tag::Forms, bus.base, RECORD));
     entries
 }
 
@@ -214,27 +241,40 @@ fn alu(random: &mut Random) -> Vec<Entry> {
     entries
 }
 
-/// Histories of the original's cache, each from a new one on, with the whole store and memory at times.
+/// Histories of the original's cache, each from a new one on and in one reading, with the whole store and memory at times.
 fn histories(bus: &mut Plain, random: &mut Random) -> Vec<Entry> {
     let mut entries = Vec::new();
-    for _ in 0..4 {
-        entries.push(Entry {
-            small: SHAPE.e as u16,
-            a: SHAPE.base,
-            b: SHAPE.pages,
-            ..Entry::new(Tag::Make)
-        });
+    for history in 0..4 {
+        let reading = Reading::ALL[history % 2];
+        let shape = Shape {
+            reading: reading.number(),
+            ..SHAPE
+        };
+        // Readings that are none; then the store's.
+        for value in [2, 256, 1 << 32, u64::MAX, shape.reading] {
+            entries.push(Entry {
+                number: if value > 1 { 2 } else { 0 },
+                small: SHAPE.e as u16,
+                a: SHAPE.base,
+                b: SHAPE.pages,
+                value,
+                ..Entry::new(Tag::Make)
+            });
+        }
         let mut rust = BlockCache::new();
         let mut mmu = Mmu::new();
         for step in 1..=500 {
             let a = address(random);
             let entry = match random.below(100) {
                 0..40 => {
-                    let Some(block) = block::decode_block(bus, a) else {
+                    let Some(block) = block_of(reading, bus, a) else {
                         continue;
                     };
                     rust.insert(a, block);
-                    Entry::new(Tag::Insert)
+                    Entry {
+                        small: reading as u16,
+                        ..Entry::new(Tag::Insert)
+                    }
                 }
                 40..75 => match rust.lookup(a) {
                     Some(block) => Entry {
@@ -285,17 +325,17 @@ fn histories(bus: &mut Plain, random: &mut Random) -> Vec<Entry> {
             };
             entries.push(Entry { a, ..entry });
             if step % 100 == 0 {
-                entries.push(whole(&rust, bus));
+                entries.push(whole(&rust, shape, bus));
             }
         }
-        entries.push(whole(&rust, bus));
+        entries.push(whole(&rust, shape, bus));
     }
     entries
 }
 
-fn whole(rust: &BlockCache, bus: &Plain) -> Entry {
+fn whole(rust: &BlockCache, shape: Shape, bus: &Plain) -> Entry {
     Entry {
-        digest: Digest(0).bytes(&store_of(rust, SHAPE)).bytes(&bus.bytes),
+        digest: Digest(0).bytes(&store_of(rust, shape)).bytes(&bus.bytes),
         ..Entry::new(Tag::Whole)
     }
 }
@@ -303,7 +343,7 @@ fn whole(rust: &BlockCache, bus: &Plain) -> Entry {
 pub fn write(folder: &Path) -> io::Result<()> {
     let mut random = Random::new(1, 9);
     let mut bus = Plain {
-        bytes: made::image((PAGES * PAGE) as usize, &mut random),
+        bytes: manual::image((PAGES * PAGE) as usize, &mut random),
         base: SHAPE.base,
     };
     let mut stdin = bus.bytes.clone();

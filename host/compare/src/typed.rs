@@ -1,11 +1,11 @@
 //! The safe crate's enums: the same names and fields as the original's, seen by what both print, and records there and back; and its cache, by the
 //! original's method names on both sides.
-use crate::{Plan, Tally};
+use crate::{Plan, Tally, manual};
 use oracle::block::{self, Op};
 use oracle::bus::Plain;
 use oracle::made;
 use oracle::random::Random;
-use unvriscol::{DecodedInsn, Error, decode_halfword, decode_word};
+use unvriscol::{DecodedInsn, Error, Reading, decode_halfword, decode_word};
 
 fn one(
     raw: u32,
@@ -24,24 +24,23 @@ fn one(
         _ => false,
     };
     tally.expect(same, || {
-        format!("{raw:#x}: the Rust gives {original:?}, the crate {ours:?}")
+        format!("{raw:#x}: {original:?} is expected, the crate gives {ours:?}")
     });
 }
 
 pub fn run(plan: &Plan, tally: &mut Tally) {
     for raw in 0..=u16::MAX {
-        one(
-            raw.into(),
-            2,
-            (block::HALFWORD)(raw),
-            decode_halfword(raw),
-            tally,
-        );
+        let [rust, by_manual] = Reading::ALL.map(|reading| decode_halfword(reading, raw));
+        one(raw.into(), 2, (block::HALFWORD)(raw), rust, tally);
+        one(raw.into(), 2, manual::halfword(raw), by_manual, tally);
     }
     let mut random = Random::new(plan.seed, 4);
     for _ in 0..if plan.all { 10_000_000 } else { 1_000_000 } {
-        let raw = random.next() as u32 | 3;
-        one(raw, 4, (block::WORD)(raw), decode_word(raw), tally);
+        for raw in [random.next() as u32 | 3, manual::some_word(&mut random)] {
+            let [rust, by_manual] = Reading::ALL.map(|reading| decode_word(reading, raw));
+            one(raw, 4, (block::WORD)(raw), rust, tally);
+            one(raw, 4, manual::word(raw), by_manual, tally);
+        }
     }
     cache(&mut random, tally);
 }
@@ -84,7 +83,8 @@ fn cache(random: &mut Random, tally: &mut Tally) {
             }
             _ => {
                 let decoded = block::decode_block(&mut bus, address);
-                let ours_decoded = unvriscol::decode_block(&(&bus.bytes[..], base), address);
+                let ours_decoded =
+                    unvriscol::decode_block(ours.reading(), &(&bus.bytes[..], base), address);
                 let same = shown(decoded.as_ref()) == shown_ours(ours_decoded.as_ref());
                 if let (Some(decoded), Some(ours_decoded)) = (decoded, ours_decoded) {
                     let kept = original.insert(address, decoded);

@@ -5,7 +5,7 @@
 //! ```text
 //! cargo run -p unvriscol --example incident        # in host/; where VPOD names a checkout of capsulerun/vpod it shows the original first
 //! ```
-use unvriscol::{AluKind, BlockCache, Error, Op, Report, alu, decode_block};
+use unvriscol::{AluKind, BlockCache, Error, Op, Report, alu};
 
 const BASE: u64 = 0x8000_0000;
 const PAGES: u64 = 16;
@@ -85,7 +85,7 @@ fn fetch(blocks: &mut BlockCache, memory: &[u8]) -> Result<(&'static str, u64), 
     if let Some(cached) = blocks.lookup(ROUTINE) {
         return Ok(("finds the block in its cache", run(&cached)?));
     }
-    let decoded = decode_block(&(memory, BASE), ROUTINE).ok_or(Error::NothingThere)?;
+    let decoded = blocks.form(memory, ROUTINE)?;
     let cached = blocks.insert(ROUTINE, decoded);
     Ok((
         "misses, forms the block from memory and caches it",

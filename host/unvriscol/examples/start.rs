@@ -1,15 +1,15 @@
-use unvriscol::{BlockCache, Error, decode_block, decode_word};
+use unvriscol::{Error, Reading, Store, decode_word};
 
 fn main() -> Result<(), Error> {
-    let decoded = decode_word(0x0010_0513)?; // addi a0, zero, 1
+    let decoded = decode_word(Reading::Manual, 0x0010_0513)?; // addi a0, zero, 1
     println!("{:?}", decoded.op); // AluImm { kind: Add, rd: 10, rs1: 0, imm: 1 }
 
     let base = 0x8000_0000;
     let mut memory = vec![0; 4096];
     memory[..6].copy_from_slice(&[0x13, 0x05, 0x10, 0x00, 0x82, 0x80]); // addi a0, zero, 1; ret
 
-    let mut blocks = BlockCache::new(14, base, 1)?; // 2^14 slots over one page
-    let block = decode_block(&(&memory[..], base), base).expect("two ops");
+    let mut blocks = Store::new(Reading::Manual, 14, base, 1)?; // 2^14 slots over one page
+    let block = blocks.form(&memory, base)?; // in the store's reading: two ops
     blocks.insert(base, block);
     assert!(blocks.lookup(base).is_some());
 

@@ -1,5 +1,5 @@
 //! Blocks: the record of 1,040 bytes (docs/FORMATS.md, "The block record"), and the same by value with the original's fields.
-use crate::{DecodedInsn, Error, door};
+use crate::{DecodedInsn, Error, Reading, door};
 use std::fmt;
 
 /// The most ops that a block has.
@@ -95,19 +95,26 @@ impl GuestMemory for (&[u8], u64) {
     }
 }
 
-/// Forms the block at an address of memory. [`Error::NothingThere`] where none forms.
-pub fn form(memory: &[u8], base: u64, address: u64) -> Result<Block, Error> {
+/// Forms the block at an address of memory, in a reading. [`Error::NothingThere`] where none forms.
+pub fn form(reading: Reading, memory: &[u8], base: u64, address: u64) -> Result<Block, Error> {
     let mut record = [0; Block::LEN];
-    form_into(memory, base, address, &mut record)?;
+    form_into(reading, memory, base, address, &mut record)?;
     Ok(Block::from_record(&record).expect("a call's record is proved to be a block's"))
 }
 
 /// Forms the block at an address of memory into the caller's record of 1,040 bytes, which an error leaves as it was.
 #[inline]
-pub fn form_into(memory: &[u8], base: u64, address: u64, record: &mut [u8]) -> Result<(), Error> {
+pub fn form_into(
+    reading: Reading,
+    memory: &[u8],
+    base: u64,
+    address: u64,
+    record: &mut [u8],
+) -> Result<(), Error> {
     // SAFETY: each pointer and length are those of one slice, lent for the call; the second is lent alone.
     Error::check(unsafe {
         door::uv_form(
+            reading.number(),
             memory.as_ptr(),
             memory.len(),
             base,
@@ -119,8 +126,12 @@ pub fn form_into(memory: &[u8], base: u64, address: u64, record: &mut [u8]) -> R
 }
 
 /// The block at an address, if one forms there: [`form`] under the original's name.
-pub fn decode_block<M: GuestMemory + ?Sized>(bus: &M, physical_address: u64) -> Option<Block> {
-    form(bus.bytes(), bus.base(), physical_address).ok()
+pub fn decode_block<M: GuestMemory + ?Sized>(
+    reading: Reading,
+    bus: &M,
+    physical_address: u64,
+) -> Option<Block> {
+    form(reading, bus.bytes(), bus.base(), physical_address).ok()
 }
 
 #[cfg(test)]
@@ -137,7 +148,11 @@ mod tests {
 
     #[test]
     fn the_sample() {
-        let block = decode_block(&(&page()[..], 0x8000_0000), 0x8000_0000).unwrap();
+        let page = page();
+        let memory = (&page[..], 0x8000_0000);
+        let block = decode_block(Reading::Rust, &memory, 0x8000_0000).unwrap();
+        let by_manual = decode_block(Reading::Manual, &memory, 0x8000_0000);
+        assert_eq!(by_manual.as_ref(), Some(&block));
         assert_eq!((block.ops.len(), block.byte_len), (2, 6));
         let [first, second] = block.ops.iter().collect::<Vec<_>>()[..] else {
             panic!("two ops")
@@ -155,7 +170,7 @@ mod tests {
     #[test]
     fn a_record_and_its_block() {
         let mut record = [0xA5; Block::LEN];
-        form_into(&page(), 0, 0, &mut record).unwrap();
+        form_into(Reading::Rust, &page(), 0, 0, &mut record).unwrap();
         let block = Block::from_record(&record).unwrap();
         assert_eq!(block.to_record(0), record);
         for (at, byte) in [(8, 0), (8, 65), (9, 1), (16, 10)] {
@@ -171,7 +186,7 @@ mod tests {
         let page = page();
         let mut record = [0xA5; Block::LEN];
         let mut answer = |memory: &[u8], base, address, len| {
-            form_into(memory, base, address, &mut record[..len]).unwrap_err()
+            form_into(Reading::Manual, memory, base, address, &mut record[..len]).unwrap_err()
         };
         assert_eq!(answer(&page[1..], 0, 4096, 1), Error::Geometry);
         assert_eq!(answer(&page, 0, 4096, 1039), Error::RecordLength);

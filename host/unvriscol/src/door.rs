@@ -40,15 +40,16 @@ impl NumberedReport {
 unsafe extern "C" {
     /// # Safety
     /// `record` points at `record_len` bytes that nothing else touches during the call.
-    pub fn uv_decode_word(raw: u32, record: *mut u8, record_len: usize) -> u64;
+    pub fn uv_decode_word(reading: u64, raw: u32, record: *mut u8, record_len: usize) -> u64;
     /// # Safety
     /// As for [`uv_decode_word`].
-    pub fn uv_decode_halfword(raw: u16, record: *mut u8, record_len: usize) -> u64;
+    pub fn uv_decode_halfword(reading: u64, raw: u16, record: *mut u8, record_len: usize) -> u64;
     pub safe fn uv_alu(kind: u64, lhs: u64, rhs: u64) -> Answer;
     /// # Safety
     /// `memory` points at `memory_len` bytes that nothing writes during the call, and `record` at `record_len` that nothing else touches. So
     /// in all calls below: what a `*const` points at may be read by others meanwhile, what a `*mut` points at not.
     pub fn uv_form(
+        reading: u64,
         memory: *const u8,
         memory_len: usize,
         base: u64,
@@ -58,7 +59,14 @@ unsafe extern "C" {
     ) -> u64;
     /// # Safety
     /// As for [`uv_form`].
-    pub fn uv_make(store: *mut u8, store_len: usize, e: u64, base: u64, pages: u64) -> u64;
+    pub fn uv_make(
+        store: *mut u8,
+        store_len: usize,
+        reading: u64,
+        e: u64,
+        base: u64,
+        pages: u64,
+    ) -> u64;
     /// # Safety
     /// As for [`uv_form`].
     pub fn uv_lookup(store: *const u8, store_len: usize, address: u64) -> Answer;

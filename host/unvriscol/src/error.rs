@@ -6,7 +6,7 @@ use std::fmt;
 pub enum Error {
     /// The store's length or header is not a store's.
     NoStore = 1,
-    /// The memory's geometry or the slot count is outside the bounds, or the memory is not the store's.
+    /// The memory's geometry or the slot count is outside the bounds, or the memory is not the store's. C callers get it also for a reading that is none.
     Geometry = 2,
     /// An address, or a byte of a write, is outside memory.
     OutsideMemory = 3,

@@ -1,5 +1,6 @@
 //! The block cache: one store of bytes, owned or lent, and the calls on it.
-use crate::{Block, Error, door};
+use crate::{Block, Error, Reading, door, form, form_into};
+use std::ops::{Deref, DerefMut};
 
 /// A block cache in one buffer of bytes: a `Box` of its own by default, or whatever the caller has, as a `&mut [u8]`.
 ///
@@ -31,10 +32,40 @@ impl std::ops::Add for Report {
     }
 }
 
-/// The original's name.
-pub type BlockCache = Store;
+/// The original's cache: a [`Store`] in memory of its own, in the Rust reading, with all methods of a [`Store`]. Whoever wants the manual's reading
+/// makes a [`Store`].
+#[derive(Clone, Debug)]
+pub struct BlockCache(Store);
+
+impl BlockCache {
+    /// A new cache: 2^e slots, over a memory of so many pages from the base on. [`Error::Geometry`] outside the bounds.
+    pub fn new(e: u64, base: u64, pages: u64) -> Result<Self, Error> {
+        Store::new(Reading::Rust, e, base, pages).map(Self)
+    }
+}
+
+impl Deref for BlockCache {
+    type Target = Store;
+
+    #[inline]
+    fn deref(&self) -> &Store {
+        &self.0
+    }
+}
+
+impl DerefMut for BlockCache {
+    #[inline]
+    fn deref_mut(&mut self) -> &mut Store {
+        &mut self.0
+    }
+}
 
 const KEPT: &str = "a store is proved to stay one";
+
+/// Where the header has the reading, the base and the page count.
+const READING_AT: usize = 3;
+const BASE_AT: usize = 8;
+const PAGES_AT: usize = 16;
 
 /// The length of a store with 2^e slots over a memory of so many pages, or none outside the bounds.
 pub fn store_len(e: u64, pages: u64) -> Option<usize> {
@@ -43,20 +74,28 @@ pub fn store_len(e: u64, pages: u64) -> Option<usize> {
 }
 
 impl Store {
-    /// A new store in memory of its own: 2^e slots, over a memory of so many pages from the base on. [`Error::Geometry`] outside the bounds.
-    pub fn new(e: u64, base: u64, pages: u64) -> Result<Self, Error> {
+    /// A new store in memory of its own, for blocks in a reading: 2^e slots, over a memory of so many pages from the base on. [`Error::Geometry`]
+    /// outside the bounds.
+    pub fn new(reading: Reading, e: u64, base: u64, pages: u64) -> Result<Self, Error> {
         // Outside the bounds no length is right, and the call says so.
         let len = store_len(e, pages).unwrap_or(0);
-        Self::make(vec![0; len].into_boxed_slice(), e, base, pages)
+        Self::make(vec![0; len].into_boxed_slice(), reading, e, base, pages)
     }
 }
 
 impl<B: AsRef<[u8]> + AsMut<[u8]>> Store<B> {
     /// A new store in the caller's bytes, whatever they hold. [`Error::NoStore`] where their number is not [`store_len`]'s.
-    pub fn make(mut bytes: B, e: u64, base: u64, pages: u64) -> Result<Self, Error> {
+    pub fn make(
+        mut bytes: B,
+        reading: Reading,
+        e: u64,
+        base: u64,
+        pages: u64,
+    ) -> Result<Self, Error> {
         let lent = bytes.as_mut();
+        let (at, len) = (lent.as_mut_ptr(), lent.len());
         // SAFETY: here and below, a pointer and a length are those of one slice, lent for the call, and alone where it is lent to be written.
-        Error::check(unsafe { door::uv_make(lent.as_mut_ptr(), lent.len(), e, base, pages) })?;
+        Error::check(unsafe { door::uv_make(at, len, reading.number(), e, base, pages) })?;
         Ok(Self { bytes })
     }
 
@@ -75,6 +114,37 @@ impl<B: AsRef<[u8]> + AsMut<[u8]>> Store<B> {
     /// The store's bytes, given back.
     pub fn into_bytes(self) -> B {
         self.bytes
+    }
+
+    /// The reading that the store was made for.
+    #[inline]
+    pub fn reading(&self) -> Reading {
+        Reading::ALL[usize::from(self.bytes.as_ref()[READING_AT])]
+    }
+
+    /// Forms the block at an address of the store's memory, in the store's reading: what is right to be kept here. As [`form`], and
+    /// [`Error::Geometry`] where the memory is not as long as the store's.
+    pub fn form(&self, memory: &[u8], address: u64) -> Result<Block, Error> {
+        form(self.reading(), memory, self.base_of(memory)?, address)
+    }
+
+    /// [`Store::form`] into the caller's record of 1,040 bytes, which an error leaves as it was.
+    #[inline]
+    pub fn form_into(&self, memory: &[u8], address: u64, record: &mut [u8]) -> Result<(), Error> {
+        let base = self.base_of(memory)?;
+        form_into(self.reading(), memory, base, address, record)
+    }
+
+    /// The base of the store's memory, given its bytes.
+    #[inline]
+    fn base_of(&self, memory: &[u8]) -> Result<u64, Error> {
+        let header = self.bytes.as_ref();
+        let number = |at| u64::from_le_bytes(header[at..at + 8].try_into().expect("eight bytes"));
+        if memory.len() as u64 == 4096 * number(PAGES_AT) {
+            Ok(number(BASE_AT))
+        } else {
+            Err(Error::Geometry)
+        }
     }
 
     /// The block record at an address: its 1,040 bytes within the store. [`Error::Miss`] where the cache has none.
@@ -184,7 +254,7 @@ impl<B: AsRef<[u8]> + AsMut<[u8]>> Store<B> {
 #[cfg(test)]
 mod tests {
     use super::*;
-    use crate::{GuestMemory, decode_block};
+    use crate::{AluKind, GuestMemory, Op, decode_block, decode_halfword, decode_word};
 
     const BASE: u64 = 0x8000_0000;
 
@@ -206,7 +276,7 @@ mod tests {
         if let Some(cached) = blocks.lookup(address) {
             return Some(cached.byte_len);
         }
-        if let Some(decoded) = decode_block(bus, address) {
+        if let Some(decoded) = decode_block(blocks.reading(), bus, address) {
             let cached = blocks.insert(address, decoded);
             return Some(cached.byte_len);
         }
@@ -221,7 +291,7 @@ mod tests {
         for at in [BASE, BASE + 4100] {
             step(&mut store, &mut (&memory[..], BASE), at);
         }
-        assert_eq!(store.lookup(BASE), decode_block(&(&memory[..], BASE), BASE));
+        assert_eq!(store.lookup(BASE), store.form(&memory, BASE).ok());
         assert_eq!(store.find(BASE).unwrap().len(), Block::LEN);
         assert_eq!(store.code_generation(), 3);
         // c.li a0, 2 and ret
@@ -241,9 +311,10 @@ mod tests {
     #[test]
     fn lent_bytes() {
         let mut bytes = vec![0xA5; 4200];
-        let mut store = Store::make(&mut bytes[..], 2, BASE, 2).unwrap();
+        let mut store = Store::make(&mut bytes[..], Reading::Manual, 2, BASE, 2).unwrap();
         step(&mut store, &mut (&memory()[..], BASE), BASE);
         let mut again = Store::open(bytes).unwrap();
+        assert_eq!(again.reading(), Reading::Manual);
         assert!(again.lookup(BASE).is_some());
         again.notify_store(BASE);
         assert!(again.lookup(BASE).is_none());
@@ -251,16 +322,18 @@ mod tests {
 
     #[test]
     fn refusals() {
-        assert_eq!(Store::new(15, 0, 1).unwrap_err(), Error::Geometry);
-        assert_eq!(Store::new(2, 0, 65_537).unwrap_err(), Error::Geometry);
-        assert_eq!(Store::new(2, 1, 1).unwrap_err(), Error::Geometry);
+        let refused = |e, base, pages| Store::new(Reading::Rust, e, base, pages).unwrap_err();
+        assert_eq!(refused(15, 0, 1), Error::Geometry);
+        assert_eq!(refused(2, 0, 65_537), Error::Geometry);
+        assert_eq!(refused(2, 1, 1), Error::Geometry);
         assert_eq!(
-            Store::make(vec![0; 4199], 2, 0, 1).unwrap_err(),
+            Store::make(vec![0; 4199], Reading::Rust, 2, 0, 1).unwrap_err(),
             Error::NoStore
         );
         assert_eq!(Store::open(vec![0; 4200]).unwrap_err(), Error::NoStore);
-        let mut store = Store::new(2, BASE, 2).unwrap();
-        let block = decode_block(&(&memory()[..], BASE), BASE).unwrap();
+        let mut store = Store::new(Reading::Rust, 2, BASE, 2).unwrap();
+        let block = store.form(&memory(), BASE).unwrap();
+        assert_eq!(store.form(&memory()[4096..], BASE), Err(Error::Geometry));
         let record = block.to_record(BASE);
         assert_eq!(store.put(BASE - 4096, &record), Err(Error::OutsideMemory));
         assert_eq!(store.put(BASE + 2, &record), Err(Error::IllFormed));
@@ -280,6 +353,47 @@ mod tests {
         // Handed back, and not kept.
         assert_eq!(store.insert(0, block.clone()), block);
         assert_eq!(store.code_generation(), 1);
+    }
+
+    /// One block for each reading, and a store that knows its own.
+    #[test]
+    fn readings() {
+        let minu = 0x0AC5_D533_u32;
+        let mut memory = memory();
+        memory[..4].copy_from_slice(&minu.to_le_bytes());
+        for (reading, kind) in Reading::ALL.into_iter().zip([AluKind::Max, AluKind::Minu]) {
+            let op = Op::AluReg {
+                kind,
+                rd: 10,
+                rs1: 11,
+                rs2: 12,
+            };
+            assert_eq!(decode_word(reading, minu).unwrap().op, op);
+            let mut store = Store::new(reading, 2, BASE, 2).unwrap();
+            assert_eq!(store.reading(), reading);
+            assert_eq!(u64::from(store.as_bytes()[READING_AT]), reading.number());
+            let block = store.form(&memory, BASE).unwrap();
+            assert_eq!(block.ops.iter().next().unwrap().op, op);
+            store.insert(BASE, block.clone());
+            assert_eq!(store.lookup(BASE), Some(block));
+        }
+        // C.LWSP with rd 0 is reserved.
+        assert!(decode_halfword(Reading::Rust, 0x4002).is_ok());
+        let reserved = decode_halfword(Reading::Manual, 0x4002);
+        assert_eq!(reserved, Err(Error::NothingThere));
+    }
+
+    #[test]
+    fn no_other_reading() {
+        let mut bytes = Store::new(Reading::Manual, 2, BASE, 2)
+            .unwrap()
+            .into_bytes();
+        for byte in [2, 3, 0x81, 255] {
+            bytes[READING_AT] = byte;
+            assert_eq!(Store::open(&mut bytes[..]).unwrap_err(), Error::NoStore);
+        }
+        bytes[READING_AT] = 0;
+        assert_eq!(Store::open(bytes).unwrap().reading(), Reading::Rust);
     }
 
     #[test]

@@ -3,7 +3,8 @@ use std::collections::BTreeMap;
 use std::fmt::Debug;
 use std::path::Path;
 use unvriscol::{
-    AluKind, Block, BranchKind, DecodedInsn, Error, LoadKind, MAX_BLOCK_OPS, StoreKind, store_len,
+    AluKind, Block, BranchKind, DecodedInsn, Error, LoadKind, MAX_BLOCK_OPS, Reading, StoreKind,
+    door, store_len,
 };
 
 fn read(path: &str) -> String {
@@ -28,11 +29,13 @@ impl Definitions {
         let files = [
             "answer/specs/Answer",
             "op/specs/Kinds",
+            "op/specs/Reading",
             "op/specs/Record",
             "block/specs/Memory",
             "block/specs/Record",
             "block/specs/WellFormed",
             "store/specs/Layout",
+            "reading/specs/Readings",
         ];
         Self(
             files
@@ -253,6 +256,48 @@ fn kinds() {
 }
 
 #[test]
+fn readings() {
+    let (header, definitions) = (Header::new(), Definitions::new());
+    let numbers = [Reading::Rust, Reading::Manual].map(Reading::number);
+    let in_c = ["UV_READING_RUST", "UV_READING_MANUAL"].map(|name| header.number(name));
+    assert_eq!(numbers, in_c);
+    assert_eq!(numbers.map(|n| Reading::ALL[n as usize].number()), numbers);
+    // The highest that is known, and the one that is the manual's.
+    assert_eq!(definitions.numbers("readingKnown"), [numbers[1]]);
+    let body = definitions.body("readingOf");
+    assert_eq!(
+        words(&body).collect::<Vec<_>>(),
+        ["cond", "eqb", "n", "1", "manual", "rust"]
+    );
+}
+
+/// Any other number answers 2, ahead of every other refusal, and changes no byte.
+#[test]
+fn no_other_reading() {
+    let page = [0x13; 4096];
+    for reading in [2, 3, 255, 256, 1 << 32, 1 << 63, u64::MAX] {
+        for len in [0, 15, 16, 1040, 4200] {
+            let mut lent = vec![0xA5; len];
+            let at = lent.as_mut_ptr();
+            // SAFETY: pointer and length of one buffer each, lent for the call.
+            let answers = unsafe {
+                [
+                    door::uv_decode_word(reading, 0x0AC5_D533, at, len),
+                    door::uv_decode_word(reading, 0x0000_0073, at, len),
+                    door::uv_decode_halfword(reading, 0x8082, at, len),
+                    door::uv_decode_halfword(reading, 0x9002, at, len),
+                    door::uv_form(reading, page.as_ptr(), 4096, 0, 0, at, len),
+                    door::uv_form(reading, page.as_ptr(), 4096, 0, 4096, at, len),
+                    door::uv_make(at, len, reading, 2, 0, 1),
+                ]
+            };
+            assert_eq!(answers, [Error::Geometry.number(); 7], "{reading} {len}");
+            assert!(lent.iter().all(|&byte| byte == 0xA5));
+        }
+    }
+}
+
+#[test]
 fn the_op_record() {
     let (header, definitions) = (Header::new(), Definitions::new());
     let names = [
@@ -307,6 +352,7 @@ fn the_store() {
     let fields = layout(&format!("{signature} ++ {behind}"));
     let names = [
         ("86", "UV_HEADER_AT_NAME"),
+        ("reading", "UV_HEADER_AT_READING"),
         ("1", "UV_HEADER_AT_VERSION"),
         ("e", "UV_HEADER_AT_E"),
         ("base", "UV_HEADER_AT_BASE"),

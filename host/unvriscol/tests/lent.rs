@@ -1,7 +1,7 @@
 //! What include/unvriscol.h says of lent buffers: with length 0 a pointer may be NULL, and none has to be aligned.
 use std::ptr::{null, null_mut};
 use unvriscol::door::{self, Answer, NumberedReport};
-use unvriscol::{Block, DecodedInsn, Report, Store, decode_word_into, form_into, store_len};
+use unvriscol::{Block, DecodedInsn, Reading, Report, Store, decode_word_into, store_len};
 
 const BASE: u64 = 0x8000_0000;
 
@@ -15,7 +15,7 @@ fn memory() -> Vec<u8> {
 #[test]
 fn null_with_length_0() {
     let mut memory = memory();
-    let mut store = Store::new(2, BASE, 2).unwrap().into_bytes();
+    let mut store = Store::new(Reading::Rust, 2, BASE, 2).unwrap().into_bytes();
     let refused = |number| Answer { number, value: 0 };
     let nothing_done = |number| NumberedReport {
         number,
@@ -26,12 +26,12 @@ fn null_with_length_0() {
     let (at, len) = (store.as_mut_ptr(), store.len());
     // SAFETY: a NULL stands beside a length of 0, and the others are pointer and length of one buffer, lent for the call.
     unsafe {
-        assert_eq!(door::uv_decode_word(0x0010_0513, lent, 0), 6);
-        assert_eq!(door::uv_decode_halfword(0x8082, lent, 0), 6);
-        assert_eq!(door::uv_form(none, 0, BASE, BASE, lent, 0), 2);
-        let formed = door::uv_form(memory.as_ptr(), memory.len(), BASE, BASE, lent, 0);
+        assert_eq!(door::uv_decode_word(0, 0x0010_0513, lent, 0), 6);
+        assert_eq!(door::uv_decode_halfword(0, 0x8082, lent, 0), 6);
+        assert_eq!(door::uv_form(0, none, 0, BASE, BASE, lent, 0), 2);
+        let formed = door::uv_form(0, memory.as_ptr(), memory.len(), BASE, BASE, lent, 0);
         assert_eq!(formed, 6);
-        assert_eq!(door::uv_make(lent, 0, 2, BASE, 2), 1);
+        assert_eq!(door::uv_make(lent, 0, 0, 2, BASE, 2), 1);
         assert_eq!(door::uv_lookup(none, 0, BASE), refused(1));
         assert_eq!(door::uv_insert(lent, 0, BASE, none, 0), 1);
         assert_eq!(door::uv_insert(at, len, BASE, none, 0), 6);
@@ -63,10 +63,10 @@ fn calls(shift: usize) -> [Vec<u8>; 4] {
     let guest = lent(guest, shift, 8192);
     guest.copy_from_slice(&memory());
 
-    decode_word_into(0x0010_0513, op).unwrap();
-    form_into(guest, BASE, BASE, record).unwrap();
+    decode_word_into(Reading::Manual, 0x0010_0513, op).unwrap();
     let bytes = lent(store, shift, store_len(2, 2).unwrap());
-    let mut store = Store::make(bytes, 2, BASE, 2).unwrap();
+    let mut store = Store::make(bytes, Reading::Manual, 2, BASE, 2).unwrap();
+    store.form_into(guest, BASE, record).unwrap();
     store.put(BASE, record).unwrap();
     assert_eq!(store.find(BASE), Ok(&*record));
     let one_dropped = Report {

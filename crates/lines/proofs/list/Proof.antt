@@ -6,10 +6,10 @@ use Rattle.lines.proofs.list.Statement.{statement}
 use Rattle.lines.proofs.list.Tie as tie
 
 abbrev Inv-loop : tie.InvT-loop
-Inv-loop page at₀ at = Unit {0}
+Inv-loop reading page at₀ at = Unit {0}
 
 abbrev μ-loop : tie.MeasureT-loop
-μ-loop page at₀ at = 4096 - at
+μ-loop reading page at₀ at = 4096 - at
 
 pub list-spec : {M : Type 1} → statement M
 list-spec =
