@@ -7,7 +7,8 @@
 //! ```
 //!
 //! Each page is walked in each reading: a block at its start, and then at the end of the last one. Where none forms the walk goes on behind the encoding
-//! there, of 2 or 4 bytes; where the page's end cuts a word, the next page begins behind that word. Data among the code is read as code.
+//! there, of 2 or 4 bytes; where the page's end cuts a word, the next page begins behind that word. Data among the code is read as code, and
+//! an address within an encoding of this walk is not looked at, though a guest might jump there.
 use std::collections::BTreeMap;
 use std::fmt;
 use std::process::ExitCode;

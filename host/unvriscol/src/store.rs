@@ -32,8 +32,8 @@ impl std::ops::Add for Report {
     }
 }
 
-/// The original's cache: a [`Store`] in memory of its own, in the Rust reading, with all methods of a [`Store`]. Whoever wants the manual's reading
-/// makes a [`Store`].
+/// The original's cache: a [`Store`] in memory of its own, in the Rust reading, with the methods of a [`Store`] that borrow it. Whoever wants the
+/// manual's reading, or the bytes back, makes a [`Store`].
 #[derive(Clone, Debug)]
 pub struct BlockCache(Store);
 
