@@ -11,7 +11,7 @@ use lib.ListN.{length, getD, drop, replicate}
 use lib.Seq.{drop-at}
 use Rattle.answer.specs.declared.Refusal.the-variants.{NoOp}
 use Rattle.answer.specs.declared.Answer.{Answer}
-use Rattle.answer.specs.declared.Answer.the-variants.{Done, Refused}
+use Rattle.answer.specs.declared.Answer.the-variants.{Done}
 use Rattle.bits.specs.Bytes.{halfwordAt, wordAt}
 use Rattle.bits.proofs.Tests.{not-true, true-false}
 use Rattle.op.specs.Reading.{Reading}
@@ -28,10 +28,10 @@ use Rattle.agree.proofs.Halfwords as halves
 use Rattle.reading.specs.Readings.{rust, manual, readingOf}
 use Rattle.reading.proofs.Proper.{ProperIn, word-proper}
 use Rattle.block.specs.Memory.{restOfPage}
-use Rattle.block.specs.Record.{Insn, insn, opRecords, blockRecord}
+use Rattle.block.specs.Record.{Insn, insn, opRecords}
 use Rattle.block.specs.WellFormed.{jumps}
 use Rattle.block.proofs.Records.{record-tells}
-use Rattle.form.specs.Forming.{stopsBlock, orFallback, ilenAt, opAt, andThen, opsFrom, formed}
+use Rattle.form.specs.Forming.{stopsBlock, orFallback, ilenAt, opAt, andThen, opsFrom}
 use Rattle.form.specs.Walk.{goesOn, meets, standsAt, meetsDifference}
 use Rattle.form.specs.Call.{formJudged, formedInto, formCall}
 use Rattle.form.proofs.Judged.{not-done}

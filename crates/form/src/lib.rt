@@ -105,7 +105,7 @@ fn form_rest(reading: u64, s: &[u8], address: u64, lent: &mut [u8]) -> Answer
     Answer::Done // the whole record
 }
 
-// Whether forming may begin, by the lengths of the memory and of the lent record.
+// Whether forming may begin, by the reading, the lengths of the memory and of the lent record, the base and the address.
 fn judge_form(reading: u64, len: u64, room: usize, base: u64, address: u64) -> Answer
     ensures { λ r. ⌜ r ≡ formJudged reading len room base address ⌝ }
 {

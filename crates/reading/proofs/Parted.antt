@@ -19,7 +19,7 @@ use Rattle.word.specs.Word.{rustWord}
 use Rattle.halfword.specs.Halfword.{rustHalf}
 use Rattle.manual.specs.Words.{manualWord}
 use Rattle.manual.specs.Halfwords.{manualHalf}
-use Rattle.agree.specs.Differences.{Entry, listed, amended, imm, unary, reg, binary, row, wordEntries, halfEntries}
+use Rattle.agree.specs.Differences.{Entry, listed, amended, imm, unary, reg, binary, row, halfEntries}
 use Rattle.agree.proofs.Words as words
 use Rattle.agree.proofs.Halfwords as halves
 

@@ -15,7 +15,7 @@ use op::Decoded;
 use op::Op;
 use word::instruction::Instruction;
 
-pub const MANUAL: u64 = 1;
+const MANUAL: u64 = 1;
 
 // What the manual reads a word as: something of its own, or what the Rust does.
 pub enum Apart {

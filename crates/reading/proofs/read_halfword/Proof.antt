@@ -1,10 +1,9 @@
 -- `reading::read_halfword` meets its contract: what the manual reserves has no op, and all else is the Rust's.
 -- Assumes nothing.
-use mathlib.Core.Path.{_≡_, refl, sym, _∙_}
+use mathlib.Core.Path.{_≡_, refl}
 use mathlib.Core.Bool.{Bool, true, false, cond, _&&_}
 use Prim.Native.Nat.{ℕ}
 use lib.Dec.{eqb}
-use Rattle.op.specs.declared.Decoded.{Decoded}
 use Rattle.op.specs.declared.Decoded.the-variants.{None}
 use Rattle.halfword.specs.Halfword.{rustHalf}
 use Rattle.agree.specs.Differences.{listed, halfEntries}

@@ -1,6 +1,6 @@
 -- `reading::reserved` meets its contract: each arm asks what the entries of its row ask.
 -- Assumes nothing.
-use mathlib.Core.Path.{_≡_, refl, sym, _∙_}
+use mathlib.Core.Path.{_≡_, sym}
 use Prim.Native.Nat.{ℕ, _+_, _*_, _<_}
 use lib.Dec.{eqb, lit<}
 use Rattle.bits.specs.Bits.{bitsAt}

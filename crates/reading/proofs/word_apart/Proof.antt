@@ -4,7 +4,6 @@ use mathlib.Core.Path.{refl}
 use borrow.Author.Tests.{ne-eqb}
 use Rattle.reading.specs.Readings.{readingOf}
 use Rattle.reading.proofs.Parted.{other-alike}
-use borrow.Author.Needs.{needs}
 use Rattle.reading.proofs.word_apart.Statement.{statement}
 use Rattle.reading.proofs.word_apart.Tie as tie
 
