@@ -383,7 +383,7 @@ fn the_bounds() {
         definitions.numbers("goodMemory"),
         [page, 0, page, 0, page, pages, page, 2, bits]
     );
-    assert_eq!(definitions.numbers("inBounds"), [e, page]);
+    assert_eq!(definitions.numbers("sized"), [e, page]);
     let front = 32 + pages.div_ceil(64) * 8;
     let longest = front + header.number("UV_BLOCK_RECORD") * (1 << e);
     assert_eq!(store_len(e, pages), Some(longest as usize));
