@@ -1,4 +1,5 @@
 //! Finds libunvriscol.a with all its functions, has `rt` build it where it is missing or older than its sources, and otherwise says what is wrong.
+use std::collections::HashSet;
 use std::path::{Path, PathBuf};
 use std::process::{Command, exit};
 use std::time::SystemTime;
@@ -30,23 +31,31 @@ fn main() {
     println!("cargo:rustc-link-lib=static=unvriscol");
 }
 
-/// What the archive is made from: crates.txt and the src/ of each crate that its line names. Nothing where this crate stands without them.
+/// What the archive is made from: crates.txt and the src/ of each crate that it leads to. Nothing where this crate stands without them.
 fn sources(root: &Path) -> Vec<PathBuf> {
     let list = root.join("crates.txt");
     let text = fs::read_to_string(&list).unwrap_or_default();
-    let Some(needed) = text
-        .lines()
-        .find_map(|line| line.strip_prefix("unvriscol:"))
-    else {
-        return Vec::new();
-    };
+    let mut needed = vec!["unvriscol"];
+    let mut at = 0;
+    while let Some(&name) = needed.get(at) {
+        at += 1;
+        let mut lines = text.lines().filter_map(|line| line.split_once(':'));
+        if let Some((_, uses)) = lines.find(|(crate_name, _)| *crate_name == name) {
+            needed.extend(uses.split_whitespace());
+            let mut seen = HashSet::new();
+            needed.retain(|name| seen.insert(*name));
+        }
+    }
     // A library of the kit has no folder here.
-    let folders = needed
-        .split_whitespace()
-        .chain(["unvriscol"])
+    let folders: Vec<_> = needed
+        .into_iter()
         .map(|name| root.join("crates").join(name).join("src"))
-        .filter(|folder| folder.is_dir());
-    [list.clone()].into_iter().chain(folders).collect()
+        .filter(|folder| folder.is_dir())
+        .collect();
+    if folders.is_empty() {
+        return folders;
+    }
+    [list].into_iter().chain(folders).collect()
 }
 
 /// The file at or below a path that was written last, and when.
