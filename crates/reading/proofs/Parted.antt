@@ -44,22 +44,32 @@ split f t low f3 top a b c e =
     let first : f ≡ f3 = omega arith in
     (last, first, omega arith)
 
--- opcode 0x13, by the decoder's key
-module _ (w funct3 : ℕ) (is : funct3 ≡ bitsAt w 12 3) (op : bitsAt w 2 5 ≡ 0x4) where
-  abbrev pub immKey : ℕ
-  immKey = funct3 * 0x10000 + bitsAt w 20 12 * 0x10 + w % 4
+-- the decoder's key of a word: funct3, a field of bits 31 to 20, and bits 1 and 0
+abbrev pub wordKey : ℕ → ℕ → ℕ → ℕ
+wordKey w funct3 field = funct3 * 0x10000 + field * 0x10 + w % 4
 
-  pub imm-fields : (f3 top : ℕ) → top < 0x1000 → immKey ≡ f3 * 0x10000 + top * 0x10 + 3 → (bitsAt w 0 7 ≡ 0x13) × (bitsAt w 12 3 ≡ f3) × (bitsAt w 20 12 ≡ top)
-  imm-fields f3 top h e =
-      let k = split funct3 (bitsAt w 20 12) (w % 4) f3 top (omega arith) (omega arith) h e in
-      (omega (arith, k .0), sym is ∙ k .1, k .2)
+-- a word whose bits 6 to 2 are `five`, with the fields that the decoder read
+module _ (five w funct3 field high : ℕ) (is3 : funct3 ≡ bitsAt w 12 3) (is : field ≡ high) (small : high < 0x1000) (op : bitsAt w 2 5 ≡ five) where
+  -- the fields in an entry's arm
+  pub at-key : (f3 m : ℕ) → m < 0x1000 → wordKey w funct3 field ≡ f3 * 0x10000 + m * 0x10 + 3 → (bitsAt w 0 7 ≡ five * 4 + 3) × (bitsAt w 12 3 ≡ f3) × (high ≡ m)
+  at-key f3 m h e =
+      let k = split funct3 field (w % 4) f3 m (omega arith) (omega arith) h e in
+      (omega (arith, k .0), sym is3 ∙ k .1, sym is ∙ k .2)
+
+  -- an entry that has another key does not cover the word
+  not-at : (f3 m : ℕ) → (wordKey w funct3 field ≡ f3 * 0x10000 + m * 0x10 + 3 → ⊥) → (eqb (bitsAt w 0 7) (five * 4 + 3) && eqb (bitsAt w 12 3) f3 && eqb high m) ≡ false
+  not-at f3 m n =
+      not-true (eqb (bitsAt w 0 7) (five * 4 + 3) && eqb (bitsAt w 12 3) f3 && eqb high m)
+      (λ t. let k = three (bitsAt w 0 7) (five * 4 + 3) (bitsAt w 12 3) f3 high m t in n (omega arith))
+
+-- where no entry has the key, the Rust's rows answer: opcode 0x13
+module _ (w funct3 : ℕ) (is : funct3 ≡ bitsAt w 12 3) (op : bitsAt w 2 5 ≡ 0x4) where
+  abbrev immKey : ℕ
+  immKey = wordKey w funct3 (bitsAt w 20 12)
 
   not-imm : (f3 top : ℕ) → (immKey ≡ f3 * 0x10000 + top * 0x10 + 3 → ⊥) → imm f3 top w ≡ false
-  not-imm f3 top n =
-      not-true (imm f3 top w)
-      (λ t. let k = three (bitsAt w 0 7) 0x13 (bitsAt w 12 3) f3 (bitsAt w 20 12) top t in n (omega arith))
+  not-imm = not-at 0x4 w funct3 (bitsAt w 20 12) (bitsAt w 20 12) is refl (omega arith) op
 
-  -- where no entry has the key, the Rust's rows answer
   pub imm-alike : (immKey ≡ 0x16043 → ⊥) → (immKey ≡ 0x16053 → ⊥) → (immKey ≡ 0x16823 → ⊥) → (immKey ≡ 0x16843 → ⊥)
       → (immKey ≡ 0x52873 → ⊥) → (immKey ≡ 0x56b83 → ⊥) → (immKey ≡ 0x55073 → ⊥) → (immKey ≡ 0x5d483 → ⊥) → (immKey ≡ 0x5d583 → ⊥)
       → rustWord w ≡ manualWord w
@@ -79,22 +89,12 @@ module _ (w funct3 : ℕ) (is : funct3 ≡ bitsAt w 12 3) (op : bitsAt w 2 5 ≡
       )
       refl)
 
--- opcode 0x33
+-- and opcode 0x33
 module _ (w funct3 funct7 : ℕ) (is3 : funct3 ≡ bitsAt w 12 3) (is7 : funct7 ≡ bitsAt w 25 7) (op : bitsAt w 2 5 ≡ 0xc) where
-  abbrev pub regKey : ℕ
-  regKey = funct3 * 0x10000 + funct7 * 0x10 + w % 4
+  not-reg : (f3 f7 : ℕ) → (wordKey w funct3 funct7 ≡ f3 * 0x10000 + f7 * 0x10 + 3 → ⊥) → reg f3 f7 w ≡ false
+  not-reg = not-at 0xc w funct3 funct7 (bitsAt w 25 7) is3 is7 (omega arith) op
 
-  pub reg-fields : (f3 f7 : ℕ) → f7 < 0x80 → regKey ≡ f3 * 0x10000 + f7 * 0x10 + 3 → (bitsAt w 0 7 ≡ 0x33) × (bitsAt w 12 3 ≡ f3) × (bitsAt w 25 7 ≡ f7)
-  reg-fields f3 f7 h e =
-      let k = split funct3 funct7 (w % 4) f3 f7 (omega arith) (omega arith) (omega arith) e in
-      (omega (arith, k .0), sym is3 ∙ k .1, sym is7 ∙ k .2)
-
-  not-reg : (f3 f7 : ℕ) → (regKey ≡ f3 * 0x10000 + f7 * 0x10 + 3 → ⊥) → reg f3 f7 w ≡ false
-  not-reg f3 f7 n =
-      not-true (reg f3 f7 w)
-      (λ t. let k = three (bitsAt w 0 7) 0x33 (bitsAt w 12 3) f3 (bitsAt w 25 7) f7 t in n (omega arith))
-
-  pub reg-alike : (regKey ≡ 0x50053 → ⊥) → (regKey ≡ 0x60053 → ⊥) → rustWord w ≡ manualWord w
+  pub reg-alike : (wordKey w funct3 funct7 ≡ 0x50053 → ⊥) → (wordKey w funct3 funct7 ≡ 0x60053 → ⊥) → rustWord w ≡ manualWord w
   reg-alike a b = words.agree w (rw (not-reg 5 5 a, not-reg 6 5 b, ne-eqb (bitsAt w 0 7) 0x13 (λ o. omega arith)) refl)
 
 pub other-alike : (w : ℕ) → (bitsAt w 2 5 ≡ 0x4 → ⊥) → (bitsAt w 2 5 ≡ 0xc → ⊥) → rustWord w ≡ manualWord w

@@ -2,6 +2,7 @@
 -- Assumes nothing.
 use mathlib.Core.Path.{_≡_, refl, sym, _∙_}
 use Prim.Native.Nat.{ℕ, _+_, _*_, _<_}
+use native.Mathlib.Omega.{arith}
 use lib.Dec.{lit<}
 use lib.IntN.{pos}
 use Rattle.bits.specs.Bits.{bitsAt}
@@ -14,7 +15,7 @@ use Rattle.word.specs.Word.{rustWord}
 use Rattle.manual.specs.Words.{manualWord}
 use Rattle.agree.specs.Differences.{amended, unary, wordEntries}
 use Rattle.agree.proofs.Words.{manual-is}
-use Rattle.reading.proofs.Parted.{unary-made, immKey, imm-fields, imm-alike}
+use Rattle.reading.proofs.Parted.{unary-made, wordKey, at-key, imm-alike}
 use borrow.Author.Needs.{needs}
 use Rattle.reading.proofs.imm_apart.Statement.{statement}
 use Rattle.reading.proofs.imm_apart.Tie as tie
@@ -33,9 +34,9 @@ made : (c : Here) (kind : AluKind) → unary kind (W c) ≡ manualWord (W c)
     → Some (AluImm kind (c .before .before .before .before .rd .result) (c .before .before .before .rs1 .result) (pos 0)) ≡ manualWord (W c)
 made c kind = unary-made kind (W c) _ _ (c .before .before .before .before .rd .ensures) (c .before .before .before .rs1 .ensures)
 
-fields : (c : Here) (f3 top : ℕ) → top < 0x1000 → immKey (W c) (c .before .before .funct3 .result) (c .before .before .funct3 .ensures) (pre c) ≡ f3 * 0x10000 + top * 0x10 + 3
+fields : (c : Here) (f3 top : ℕ) → top < 0x1000 → wordKey (W c) (c .before .before .funct3 .result) (bitsAt (W c) 20 12) ≡ f3 * 0x10000 + top * 0x10 + 3
     → (bitsAt (W c) 0 7 ≡ 0x13) × (bitsAt (W c) 12 3 ≡ f3) × (bitsAt (W c) 20 12 ≡ top)
-fields c = imm-fields (W c) (c .before .before .funct3 .result) (c .before .before .funct3 .ensures) (pre c)
+fields c = at-key 0x4 (W c) (c .before .before .funct3 .result) (bitsAt (W c) 20 12) (bitsAt (W c) 20 12) (c .before .before .funct3 .ensures) refl (omega arith) (pre c)
 
 says : (c : Here) {d : Decoded} → amended wordEntries rustWord (W c) ≡ d → d ≡ manualWord (W c)
 says c e = sym e ∙ sym (manual-is (W c))

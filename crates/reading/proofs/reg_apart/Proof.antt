@@ -2,6 +2,7 @@
 -- Assumes nothing.
 use mathlib.Core.Path.{_≡_, refl, sym, _∙_}
 use Prim.Native.Nat.{ℕ, _+_, _*_, _<_}
+use native.Mathlib.Omega.{arith}
 use lib.Dec.{lit<}
 use Rattle.bits.specs.Bits.{bitsAt}
 use Rattle.op.specs.declared.AluKind.{AluKind}
@@ -11,7 +12,7 @@ use Rattle.op.specs.declared.Decoded.the-variants.{Some}
 use Rattle.manual.specs.Words.{manualWord}
 use Rattle.agree.specs.Differences.{binary}
 use Rattle.agree.proofs.Words.{manual-is}
-use Rattle.reading.proofs.Parted.{binary-made, regKey, reg-fields, reg-alike}
+use Rattle.reading.proofs.Parted.{binary-made, wordKey, at-key, reg-alike}
 use borrow.Author.Needs.{needs}
 use Rattle.reading.proofs.reg_apart.Statement.{statement}
 use Rattle.reading.proofs.reg_apart.Tie as tie
@@ -26,10 +27,9 @@ W c = c .before .before .before .before .before .before .args .inst .0
 pre : (c : Here) → bitsAt (W c) 2 5 ≡ 0xc
 pre c = c .before .before .before .before .before .before .pre
 
-fields : (c : Here) (f3 f7 : ℕ) → f7 < 0x80
-    → regKey (W c) (c .before .before .funct3 .result) (c .before .funct7 .result) (c .before .before .funct3 .ensures) (c .before .funct7 .ensures) (pre c) ≡ f3 * 0x10000 + f7 * 0x10 + 3
+fields : (c : Here) (f3 f7 : ℕ) → f7 < 0x1000 → wordKey (W c) (c .before .before .funct3 .result) (c .before .funct7 .result) ≡ f3 * 0x10000 + f7 * 0x10 + 3
     → (bitsAt (W c) 0 7 ≡ 0x33) × (bitsAt (W c) 12 3 ≡ f3) × (bitsAt (W c) 25 7 ≡ f7)
-fields c = reg-fields (W c) (c .before .before .funct3 .result) (c .before .funct7 .result) (c .before .before .funct3 .ensures) (c .before .funct7 .ensures) (pre c)
+fields c = at-key 0xc (W c) (c .before .before .funct3 .result) (c .before .funct7 .result) (bitsAt (W c) 25 7) (c .before .before .funct3 .ensures) (c .before .funct7 .ensures) (omega arith) (pre c)
 
 made : (c : Here) (kind : AluKind) → binary kind (W c) ≡ manualWord (W c)
     → Some (AluReg kind (c .before .before .before .before .before .rd .result) (c .before .before .before .before .rs1 .result) (c .before .before .before .rs2 .result)) ≡ manualWord (W c)
