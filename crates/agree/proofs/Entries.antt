@@ -42,6 +42,17 @@ refuted a b p = rw (ap stampOf p) (λ t. no (eqb (stamp b) (stamp b)) (eqb-refl 
     no true s t = t
     no false s t = s
 
+-- what is asked of a row that one entry has, or two
+pub one-asks : (b : Bool) → b ≡ (b || false)
+one-asks true = refl
+one-asks false = refl
+
+pub two-ask : (a b : Bool) → b ≡ ((a && b) || ((not a && b) || false))
+two-ask true true = refl
+two-ask true false = refl
+two-ask false true = refl
+two-ask false false = refl
+
 -- two fields and a test, as an entry asks for them
 pub fields : (x k y l : ℕ) (t : Bool) → (eqb x k && eqb y l && t) ≡ true → (x ≡ k) × (y ≡ l) × (t ≡ true)
 fields x k y l t h =
@@ -67,3 +78,16 @@ module _ (rust manual : ℕ → Decoded) where
       pick : (c : Bool) → e .covers w ≡ c → ((listed es w ≡ false → rust w ≡ manual w) → manual w ≡ amended es rust w) → ((c || listed es w) ≡ false → rust w ≡ manual w) → manual w ≡ cond c (e .manual w) (amended es rust w)
       pick true p others a = t .1 w p .1
       pick false p others a = others a
+
+-- entries at which the manual has no op
+abbrev pub Silent : List Entry → Type 0
+Silent [] = Unit {0}
+Silent (e ∷ es) = ((w : ℕ) → e .manual w ≡ None) × Silent es
+
+pub silent : (es : List Entry) → Silent es → (rust : ℕ → Decoded) (w : ℕ) → amended es rust w ≡ cond (listed es w) None (rust w)
+silent [] s rust w = refl
+silent (e ∷ es) s rust w = rw (s .0 w, silent es (s .1) rust w) (either (e .covers w) (listed es w))
+  where
+    either : (a b : Bool) → cond a None (cond b None (rust w)) ≡ cond (a || b) None (rust w)
+    either true b = refl
+    either false b = refl

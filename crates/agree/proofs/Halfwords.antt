@@ -1,7 +1,7 @@
 -- At every halfword of an entry the Rust and the manual read what the entry says, and outside the entries they read each halfword alike.
 -- The quadrant and funct3 pick a row in each reading; row by row the manual's figures give the Rust's sums.
 -- Assumes nothing.
-use mathlib.Core.Path.{_≡_, refl, sym, ap}
+use mathlib.Core.Path.{_≡_, refl, sym, ap, _∙_}
 use mathlib.Core.Bool.{Bool, true, false, cond, not, _&&_, _||_, true≢false}
 use Prim.Native.Nat.{ℕ, _+_, _*_, _/_, _<_}
 use native.Mathlib.Nat.{div-div-eq-div-mul}
@@ -24,7 +24,7 @@ use Rattle.halfword.specs.Halfword.{halfAt, rustHalf}
 use Rattle.manual.specs.Halfwords as manual
 use Rattle.manual.specs.Halfwords.{halfBy, manualHalf}
 use Rattle.agree.specs.Differences.{listed, Told, amended, row, imm0, halfEntries}
-use Rattle.agree.proofs.Entries.{fields, lead, differ-by, manual-by}
+use Rattle.agree.proofs.Entries.{fields, lead, differ-by, manual-by, silent}
 
 -- the figures
 addi4spn : (w : ℕ) → rust.nzuimmAddi4spn w ≡ manual.addi4spn w
@@ -200,3 +200,7 @@ differ w h e = unlike w h (ap lead e)
 
 pub manual-is : (w : ℕ) → manualHalf w ≡ amended halfEntries rustHalf w
 manual-is w = manual-by rustHalf manualHalf halfEntries told w (agree w)
+
+-- the Rust's reading, and none where an entry stands
+pub half-is : (w : ℕ) → manualHalf w ≡ cond (listed halfEntries w) None (rustHalf w)
+half-is w = manual-is w ∙ silent halfEntries (λ w. refl, (λ w. refl, (λ w. refl, (λ w. refl, (λ w. refl, (λ w. refl, tt)))))) rustHalf w

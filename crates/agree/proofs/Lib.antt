@@ -9,3 +9,4 @@ pub mod Entries
 mod Formats
 pub mod Halfwords
 pub mod Words
+pub mod ShortList

@@ -83,13 +83,27 @@ row quadrant funct3 asked w = eqb (half.quadrant w) quadrant && eqb (half.funct3
 abbrev pub imm0 : ℕ → Bool
 imm0 w = eqb (bitsAt w 12 1) 0 && eqb (bitsAt w 2 5) 0
 
--- reserved by the manual: C.ADDIW with rd 0, C.ADDI16SP and C.LUI with immediate 0, C.LWSP and C.LDSP with rd 0, C.JR with rs1 0
+-- reserved by the manual: C.ADDIW with rd 0
+abbrev pub addiw0 : Entry
+addiw0 = entry 0x2001 (row 1 1 (λ w. eqb (half.rd w) 0)) (λ w. Some (AluImm Addw 0 0 (signed 6 (imm6 w)))) none
+
+-- C.ADDI16SP and C.LUI with immediate 0
+abbrev pub addi16sp0 : Entry
+addi16sp0 = entry 0x6101 (row 1 3 (λ w. eqb (half.rd w) 2 && imm0 w)) (λ w. Some (AluImm Add 2 2 (pos 0))) none
+
+abbrev pub lui0 : Entry
+lui0 = entry 0x6081 (row 1 3 (λ w. not (eqb (half.rd w) 2) && imm0 w)) (λ w. Some (Lui (half.rd w) (pos 0))) none
+
+-- C.LWSP and C.LDSP with rd 0
+abbrev pub lwsp0 : Entry
+lwsp0 = entry 0x4002 (row 2 2 (λ w. eqb (half.rd w) 0)) (λ w. Some (Load Lw 0 2 (pos (uimmLwsp w)))) none
+
+abbrev pub ldsp0 : Entry
+ldsp0 = entry 0x6002 (row 2 3 (λ w. eqb (half.rd w) 0)) (λ w. Some (Load Ld 0 2 (pos (uimmLdsp w)))) none
+
+-- C.JR with rs1 0
+abbrev pub jr0 : Entry
+jr0 = entry 0x8002 (row 2 4 (λ w. eqb (bitsAt w 12 1) 0 && eqb (half.rs2 w) 0 && eqb (half.rd w) 0)) (λ w. Some (Jalr 0 0 (pos 0))) none
+
 abbrev pub halfEntries : List Entry
-halfEntries =
-    entry 0x2001 (row 1 1 (λ w. eqb (half.rd w) 0)) (λ w. Some (AluImm Addw 0 0 (signed 6 (imm6 w)))) none
-    ∷ entry 0x6101 (row 1 3 (λ w. eqb (half.rd w) 2 && imm0 w)) (λ w. Some (AluImm Add 2 2 (pos 0))) none
-    ∷ entry 0x6081 (row 1 3 (λ w. not (eqb (half.rd w) 2) && imm0 w)) (λ w. Some (Lui (half.rd w) (pos 0))) none
-    ∷ entry 0x4002 (row 2 2 (λ w. eqb (half.rd w) 0)) (λ w. Some (Load Lw 0 2 (pos (uimmLwsp w)))) none
-    ∷ entry 0x6002 (row 2 3 (λ w. eqb (half.rd w) 0)) (λ w. Some (Load Ld 0 2 (pos (uimmLdsp w)))) none
-    ∷ entry 0x8002 (row 2 4 (λ w. eqb (bitsAt w 12 1) 0 && eqb (half.rs2 w) 0 && eqb (half.rd w) 0)) (λ w. Some (Jalr 0 0 (pos 0))) none
-    ∷ []
+halfEntries = addiw0 ∷ addi16sp0 ∷ lui0 ∷ lwsp0 ∷ ldsp0 ∷ jr0 ∷ []

@@ -7,3 +7,4 @@ pub mod Seal
 pub mod FormedWell
 pub mod Taken
 pub mod TwoReadings
+pub mod ShortList

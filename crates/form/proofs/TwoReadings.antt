@@ -4,7 +4,7 @@
 use mathlib.Core.Path.{_≡_, refl, sym, ap, ap₂, _∙_}
 use mathlib.Core.Bool.{Bool, true, false, cond, _||_}
 use mathlib.Core.List.{List, [], _∷_, _++_, append-assoc}
-use Prim.Native.Nat.{ℕ, zero, suc, _+_, _-_, _*_, _≤_}
+use Prim.Native.Nat.{ℕ, zero, suc, _+_, _-_, _*_, _<_, _≤_}
 use native.Mathlib.Omega.{arith}
 use lib.Dec.{eqb, ltb}
 use lib.ListN.{length, getD, drop, replicate}
@@ -28,11 +28,11 @@ use Rattle.agree.proofs.Halfwords as halves
 use Rattle.reading.specs.Readings.{rust, manual, readingOf}
 use Rattle.reading.proofs.Proper.{ProperIn, word-proper}
 use Rattle.block.specs.Memory.{restOfPage}
-use Rattle.block.specs.Record.{Insn, insn, opRecords}
+use Rattle.block.specs.Record.{Insn, insn, opRecords, byteLen}
 use Rattle.block.specs.WellFormed.{jumps}
 use Rattle.block.proofs.Records.{record-tells}
-use Rattle.form.specs.Forming.{stopsBlock, orFallback, ilenAt, opAt, andThen, opsFrom}
-use Rattle.form.specs.Walk.{goesOn, meets, standsAt, meetsDifference}
+use Rattle.form.specs.Forming.{stopsBlock, orFallback, ilenAt, opAt, andThen, opsFrom, formed}
+use Rattle.form.specs.Walk.{goesOn, meets, standsAt, walkMeets, meetsDifference}
 use Rattle.form.specs.Call.{formJudged, formedInto, formCall}
 use Rattle.form.proofs.Judged.{not-done}
 
@@ -116,6 +116,39 @@ module _ (r r′ : Reading) (s : List ℕ) (asked : ℕ → Bool) (alike : (at :
             let on = step-on (ilenAt s at) (opsFrom r s n (at + ilenAt s at)) (opsFrom r′ s n (at + ilenAt s at)) (meets asked r s n (at + ilenAt s at)) at z z′ (opAt r s at) h (rw p at l) (rw p at e) in
             later (on .0) (on .1) (on .2)
 
+  -- where the first has no op wherever something is asked for, its block ends before the first of these, and the other's goes on from there
+  module _ (none : (at : ℕ) → asked at ≡ true → opAt r s at ≡ None) where
+    abbrev Ends : ℕ → ℕ → List Insn → List Insn → Type 0
+    Ends n at front other = (asked (at + byteLen front) ≡ true) × (length front < n) × (other ≡ front ++ opsFrom r′ s (n - length front) (at + byteLen front))
+
+    on-ends : (n at : ℕ) (X Y : List Insn) (m : Bool) (d : Decoded) → goesOn d m ≡ true → (m ≡ true → Ends n (at + ilenAt s at) X Y)
+        → Ends (suc n) at (andThen d (ilenAt s at) X) (andThen d (ilenAt s at) Y)
+    unfolding byteLen
+    on-ends n at X Y m None h later = absurd (true-false h refl)
+    on-ends n at X Y m (Some op) h later = by (jumps (opFields op .op)) h
+      where
+        by : (b : Bool) → cond b false m ≡ true → Ends (suc n) at (insn op (ilenAt s at) ∷ cond b [] X) (insn op (ilenAt s at) ∷ cond b [] Y)
+        by true h = absurd (true-false h refl)
+        by false h =
+            let k = later h in
+            let z : at + (ilenAt s at + byteLen X) ≡ at + ilenAt s at + byteLen X = omega arith in
+            let y : suc n - suc (length X) ≡ n - length X = omega arith in
+            rw (z, y) (k .0, omega arith, ap (λ (next : List Insn). insn op (ilenAt s at) ∷ next) (k .2))
+
+    pub ends-before : (n at : ℕ) → meets asked r s n at ≡ true → Ends n at (opsFrom r s n at) (opsFrom r′ s n at)
+    unfolding meets opsFrom byteLen
+    ends-before zero at h = absurd (true-false h refl)
+    ends-before (suc n) at h = by (asked at) refl h (ends-before n (at + ilenAt s at))
+      where
+        by : (b : Bool) → asked at ≡ b → (b || goesOn (opAt r s at) (meets asked r s n (at + ilenAt s at))) ≡ true
+            → (meets asked r s n (at + ilenAt s at) ≡ true → Ends n (at + ilenAt s at) (opsFrom r s n (at + ilenAt s at)) (opsFrom r′ s n (at + ilenAt s at)))
+            → Ends (suc n) at (andThen (opAt r s at) (ilenAt s at) (opsFrom r s n (at + ilenAt s at))) (andThen (opAt r′ s at) (ilenAt s at) (opsFrom r′ s n (at + ilenAt s at)))
+        by true k h later =
+            let z : at + 0 ≡ at = omega arith in
+            let y : suc n - 0 ≡ suc n = omega arith in
+            rw (none at k, z, y) (k, omega arith, refl)
+        by false k h later = rw (← alike at k) (on-ends n at (opsFrom r s n (at + ilenAt s at)) (opsFrom r′ s n (at + ilenAt s at)) (meets asked r s n (at + ilenAt s at)) (opAt r s at) h later)
+
 ops-few : (r : Reading) (s : List ℕ) (n at : ℕ) → length (opsFrom r s n at) ≤ n
 unfolding opsFrom
 ops-few r s zero at = omega arith
@@ -149,49 +182,67 @@ kept-unlike raw None (Some op) p p′ u e = fell raw op (p′ op refl .0) (stops
 kept-unlike raw (Some op) None p p′ u e = fell raw op (p op refl .0) (stopsBlock raw) e
 kept-unlike raw (Some op) (Some op′) p p′ u e = u e
 
--- where an entry stands
-abbrev entryAt : List ℕ → ℕ → Bool
-entryAt = standsAt (listed halfEntries) (listed wordEntries)
+-- readings that part at these halfwords and these words
+module _ (r r′ : Reading) (halves words : ℕ → Bool) where
+  abbrev parted : List ℕ → ℕ → Bool
+  parted = standsAt halves words
 
-module _ (s : List ℕ) (at : ℕ) where
-  entries-alike : entryAt s at ≡ false → opAt rust s at ≡ opAt manual s at
-  unfolding opAt
-  entries-alike = by (ltb (length s) (at + 2)) (eqb (ilenAt s at) 2) (ltb (length s) (at + 4)) (halfwordAt s at) (wordAt s at)
-    where
-      by : (a b c : Bool) (h w : ℕ) → cond a false (cond b (listed halfEntries h) (cond c false (listed wordEntries w))) ≡ false
-          → cond a None (cond b (rust .ofHalf h) (cond c None (orFallback w (rust .ofWord w)))) ≡ cond a None (cond b (manual .ofHalf h) (cond c None (orFallback w (manual .ofWord w))))
-      by true b c h w e = refl
-      by false true c h w e = halves.agree h e
-      by false false true h w e = refl
-      by false false false h w e = ap (orFallback w) (words.agree w e)
+  -- forming with an answer of the checks
+  abbrev formedBy : Answer → Reading → List ℕ → ℕ → ℕ → List ℕ → Answer × List ℕ
+  formedBy judged reading memory base address lent = formedInto judged address (formed reading memory base address) lent
 
-  entries-unlike : entryAt s at ≡ true → lead (opAt rust s at) ≡ lead (opAt manual s at) → ⊥
-  unfolding opAt readingOf
-  entries-unlike = by (ltb (length s) (at + 2)) (eqb (ilenAt s at) 2) (ltb (length s) (at + 4)) (halfwordAt s at) (wordAt s at)
-    where
-      by : (a b c : Bool) (h w : ℕ) → cond a false (cond b (listed halfEntries h) (cond c false (listed wordEntries w))) ≡ true
-          → lead (cond a None (cond b (rust .ofHalf h) (cond c None (orFallback w (rust .ofWord w))))) ≡ lead (cond a None (cond b (manual .ofHalf h) (cond c None (orFallback w (manual .ofWord w))))) → ⊥
-      by true b c h w e = absurd (true-false e refl)
-      by false true c h w e = halves.unlike h e
-      by false false true h w e = absurd (true-false e refl)
-      by false false false h w e = kept-unlike w (rust .ofWord w) (manual .ofWord w) (word-proper 0 w) (word-proper 1 w) (words.unlike w e)
+  module _ (half-alike : (h : ℕ) → halves h ≡ false → r .ofHalf h ≡ r′ .ofHalf h) (word-alike : (w : ℕ) → words w ≡ false → r .ofWord w ≡ r′ .ofWord w) where
+    pub parted-alike : (s : List ℕ) (at : ℕ) → parted s at ≡ false → opAt r s at ≡ opAt r′ s at
+    unfolding opAt
+    parted-alike s at = by (ltb (length s) (at + 2)) (eqb (ilenAt s at) 2) (ltb (length s) (at + 4)) (halfwordAt s at) (wordAt s at)
+      where
+        by : (a b c : Bool) (h w : ℕ) → cond a false (cond b (halves h) (cond c false (words w))) ≡ false
+            → cond a None (cond b (r .ofHalf h) (cond c None (orFallback w (r .ofWord w)))) ≡ cond a None (cond b (r′ .ofHalf h) (cond c None (orFallback w (r′ .ofWord w))))
+        by true b c h w e = refl
+        by false true c h w e = half-alike h e
+        by false false true h w e = refl
+        by false false false h w e = ap (orFallback w) (word-alike w e)
+
+    -- a block whose walk meets none of these is the same in both
+    pub forms-alike : (judged : Answer) (memory : List ℕ) (base address : ℕ) (lent : List ℕ) → walkMeets parted r memory base address ≡ false
+        → formedBy judged r memory base address lent ≡ formedBy judged r′ memory base address lent
+    forms-alike judged memory base address lent h =
+        let s = restOfPage memory base address in
+        ap (λ (ops : List Insn). formedInto judged address ops lent) (same-ops r r′ s (parted s) (parted-alike s) 64 0 h)
+
+    module _ (half-unlike : (h : ℕ) → halves h ≡ true → lead (r .ofHalf h) ≡ lead (r′ .ofHalf h) → ⊥)
+             (word-unlike : (w : ℕ) → words w ≡ true → lead (r .ofWord w) ≡ lead (r′ .ofWord w) → ⊥)
+             (proper : (w : ℕ) → ProperIn (r .ofWord w)) (proper′ : (w : ℕ) → ProperIn (r′ .ofWord w)) where
+      parted-unlike : (s : List ℕ) (at : ℕ) → parted s at ≡ true → lead (opAt r s at) ≡ lead (opAt r′ s at) → ⊥
+      unfolding opAt
+      parted-unlike s at = by (ltb (length s) (at + 2)) (eqb (ilenAt s at) 2) (ltb (length s) (at + 4)) (halfwordAt s at) (wordAt s at)
+        where
+          by : (a b c : Bool) (h w : ℕ) → cond a false (cond b (halves h) (cond c false (words w))) ≡ true
+              → lead (cond a None (cond b (r .ofHalf h) (cond c None (orFallback w (r .ofWord w))))) ≡ lead (cond a None (cond b (r′ .ofHalf h) (cond c None (orFallback w (r′ .ofWord w))))) → ⊥
+          by true b c h w e = absurd (true-false e refl)
+          by false true c h w e = half-unlike h e
+          by false false true h w e = absurd (true-false e refl)
+          by false false false h w e = kept-unlike w (r .ofWord w) (r′ .ofWord w) (proper w) (proper′ w) (word-unlike w e)
+
+      -- and one that is the same met none
+      pub forms-alike-only : (memory : List ℕ) (base address : ℕ) (lent : List ℕ) → formedBy Done r memory base address lent ≡ formedBy Done r′ memory base address lent
+          → walkMeets parted r memory base address ≡ false
+      forms-alike-only memory base address lent e =
+          let s = restOfPage memory base address in
+          let t = into-tells address lent (opsFrom r s 64 0) (opsFrom r′ s 64 0) (ops-few r s 64 0) (ops-few r′ s 64 0) e in
+          not-true (walkMeets parted r memory base address)
+          (λ h. other-records r r′ s (parted s) (parted-alike s) (parted-unlike s) 64 0 _ _ h (t .0) (t .1))
 
 -- for whoever moves a plant from one reading to the other
 module _ (memory : List ℕ) (base address : ℕ) (lent : List ℕ) where
   -- a block whose walk meets no entry is the same in both
   pub same-block : meetsDifference memory base address ≡ false → formCall 0 memory base address lent ≡ formCall 1 memory base address lent
   unfolding formCall readingOf
-  same-block h =
-      let s = restOfPage memory base address in
-      ap (λ (ops : List Insn). formedInto (formJudged 0 (length memory) (length lent) base address) address ops lent)
-      (same-ops rust manual s (entryAt s) (entries-alike s) 64 0 h)
+  same-block = forms-alike rust manual (listed halfEntries) (listed wordEntries) halves.agree words.agree (formJudged 0 (length memory) (length lent) base address) memory base address lent
 
   -- and one that is the same met none
   pub same-block-only : formJudged 0 (length memory) (length lent) base address ≡ Done → formCall 0 memory base address lent ≡ formCall 1 memory base address lent
       → meetsDifference memory base address ≡ false
   unfolding formCall readingOf
   same-block-only judged e =
-      let s = restOfPage memory base address in
-      let t = into-tells address lent (opsFrom rust s 64 0) (opsFrom manual s 64 0) (ops-few rust s 64 0) (ops-few manual s 64 0) (rw judged at e) in
-      not-true (meetsDifference memory base address)
-      (λ h. other-records rust manual s (entryAt s) (entries-alike s) (entries-unlike s) 64 0 _ _ h (t .0) (t .1))
+      forms-alike-only rust manual (listed halfEntries) (listed wordEntries) halves.agree words.agree halves.unlike words.unlike (word-proper 0) (word-proper 1) memory base address lent (rw judged at e)

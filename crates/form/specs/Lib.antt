@@ -3,4 +3,5 @@ pub mod Forming
 pub mod Walk
 pub mod Written
 pub mod Call
+pub mod ShortList
 pub mod ProperReading

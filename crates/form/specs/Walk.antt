@@ -33,7 +33,10 @@ standsAt halves words s at =
     (cond (eqb (ilenAt s at) 2) (halves (halfwordAt s at))
     (cond (ltb (length s) (at + 4)) false (words (wordAt s at))))
 
--- the walk from an address meets an entry of docs/DIFFERENCES.md
+-- the walk from an address of a memory meets what is asked for
+abbrev pub walkMeets : (List ℕ → ℕ → Bool) → Reading → List ℕ → ℕ → ℕ → Bool
+walkMeets asked reading memory base address = meets (asked (restOfPage memory base address)) reading (restOfPage memory base address) 64 0
+
+-- and an entry of docs/DIFFERENCES.md
 abbrev pub meetsDifference : List ℕ → ℕ → ℕ → Bool
-meetsDifference memory base address =
-    meets (standsAt (listed halfEntries) (listed wordEntries) (restOfPage memory base address)) rust (restOfPage memory base address) 64 0
+meetsDifference = walkMeets (standsAt (listed halfEntries) (listed wordEntries)) rust

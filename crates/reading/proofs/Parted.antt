@@ -118,32 +118,3 @@ module _ (w quadrant funct3 : ℕ) (is : quadrant ≡ bitsAt w 0 2) (is3 : funct
 
   pub not-listed : (halfKey ≡ 0x11 → ⊥) → (halfKey ≡ 0x13 → ⊥) → (halfKey ≡ 0x22 → ⊥) → (halfKey ≡ 0x23 → ⊥) → (halfKey ≡ 0x24 → ⊥) → listed halfEntries w ≡ false
   not-listed a b c d e = rw (not-row 1 1 _ a, not-row 1 3 _ b, not-row 1 3 _ b, not-row 2 2 _ c, not-row 2 3 _ d, not-row 2 4 _ e) refl
-
--- what is asked of a row that one entry has, or two
-pub one-asks : (b : Bool) → b ≡ (b || false)
-one-asks true = refl
-one-asks false = refl
-
-pub two-ask : (a b : Bool) → b ≡ ((a && b) || ((not a && b) || false))
-two-ask true true = refl
-two-ask true false = refl
-two-ask false true = refl
-two-ask false false = refl
-
--- entries at which the manual has no op
-abbrev Silent : List Entry → Type 0
-Silent [] = Unit {0}
-Silent (e ∷ es) = ((w : ℕ) → e .manual w ≡ None) × Silent es
-
-silent : (es : List Entry) → Silent es → (rust : ℕ → Decoded) (w : ℕ) → amended es rust w ≡ cond (listed es w) None (rust w)
-silent [] s rust w = refl
-silent (e ∷ es) s rust w = rw (s .0 w, silent es (s .1) rust w) (either (e .covers w) (listed es w))
-  where
-    either : (a b : Bool) → cond a None (cond b None (rust w)) ≡ cond (a || b) None (rust w)
-    either true b = refl
-    either false b = refl
-
-pub half-is : (w : ℕ) → manualHalf w ≡ cond (listed halfEntries w) None (rustHalf w)
-half-is w =
-    halves.manual-is w
-    ∙ silent halfEntries (λ w. refl, (λ w. refl, (λ w. refl, (λ w. refl, (λ w. refl, (λ w. refl, tt)))))) rustHalf w

@@ -8,7 +8,7 @@ use Rattle.op.specs.declared.Decoded.the-variants.{None}
 use Rattle.halfword.specs.Halfword.{rustHalf}
 use Rattle.agree.specs.Differences.{listed, halfEntries}
 use Rattle.reading.specs.Readings.{rust, manual, readingOf}
-use Rattle.reading.proofs.Parted.{half-is}
+use Rattle.agree.proofs.Halfwords.{half-is}
 use borrow.Author.Needs.{needs}
 use Rattle.reading.proofs.read_halfword.Statement.{statement}
 use Rattle.reading.proofs.read_halfword.Tie as tie

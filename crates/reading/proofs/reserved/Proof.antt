@@ -6,7 +6,8 @@ use lib.Dec.{eqb, lit<}
 use Rattle.bits.specs.Bits.{bitsAt}
 use Rattle.halfword.specs.Instruction.{rd}
 use Rattle.agree.specs.Differences.{imm0}
-use Rattle.reading.proofs.Parted.{halfKey, half-fields, not-listed, one-asks, two-ask}
+use Rattle.agree.proofs.Entries.{one-asks, two-ask}
+use Rattle.reading.proofs.Parted.{halfKey, half-fields, not-listed}
 use borrow.Author.Needs.{needs}
 use Rattle.reading.proofs.reserved.Statement.{statement}
 use Rattle.reading.proofs.reserved.Tie as tie
