@@ -1,5 +1,5 @@
 // The values on forming (docs/FORMATS.md, Values), through the public call, and three listings of one input in the Rust's reading.
-// A line of the first part: the number, the record's address, count, byte_len, and the first op's number and kind. A record starts as 170s.
+// A line of six numbers before these: the number, the record's address, count, byte_len, and the first op's number and kind. A record starts as 170s.
 use lines::number;
 
 // The readings, and a number that is none.
@@ -48,6 +48,21 @@ fn in_both(raw: u32) {
     at_start(MANUAL, raw);
 }
 
+// C.ADDI of x10 with 1, a halfword and C.JR of x1, listed in both readings; then the number and record where the halfword comes first.
+fn between(raw: u16) {
+    let mut page = [0u8; 4096];
+    page[0] = 0x05;
+    page[1] = 0x05;
+    page[2] = (raw % 256) as u8;
+    page[3] = (raw / 256) as u8;
+    page[4] = 0x82;
+    page[5] = 0x80;
+    lines::list(RUST, &page);
+    lines::list(MANUAL, &page);
+    formed(RUST, &page, 0x1000, 0x1002);
+    formed(MANUAL, &page, 0x1000, 0x1002);
+}
+
 fn halfwords() {
     let mut page = [0u8; 4096];
     let mut i = 0;
@@ -83,6 +98,11 @@ fn main() {
     in_both(0x6825_1513);
     in_both(0x4002_0001);
     in_both(0x0001_4002);
+    // C.ADDI of x2 with 0, and C.ADDI16SP with 0, whose record is the same; C.LUI with 0 of x0 and of x1
+    between(0x0101);
+    between(0x6101);
+    between(0x6001);
+    between(0x6081);
     at_start(NONE, 0x0ac5_d533);
     at_end(0x01, 0x00, 0x0fff);
     at_end(0x01, 0x00, 0x2000);
