@@ -211,8 +211,8 @@ module _ (r r′ : Reading) (halves words : ℕ → Bool) where
         ap (λ (ops : List Insn). formedInto judged address ops lent) (same-ops r r′ s (parted s) (parted-alike s) 64 0 h)
 
     module _ (half-unlike : (h : ℕ) → halves h ≡ true → lead (r .ofHalf h) ≡ lead (r′ .ofHalf h) → ⊥)
-             (word-unlike : (w : ℕ) → words w ≡ true → lead (r .ofWord w) ≡ lead (r′ .ofWord w) → ⊥)
-             (proper : (w : ℕ) → ProperIn (r .ofWord w)) (proper′ : (w : ℕ) → ProperIn (r′ .ofWord w)) where
+        (word-unlike : (w : ℕ) → words w ≡ true → lead (r .ofWord w) ≡ lead (r′ .ofWord w) → ⊥)
+        (proper : (w : ℕ) → ProperIn (r .ofWord w)) (proper′ : (w : ℕ) → ProperIn (r′ .ofWord w)) where
       parted-unlike : (s : List ℕ) (at : ℕ) → parted s at ≡ true → lead (opAt r s at) ≡ lead (opAt r′ s at) → ⊥
       unfolding opAt
       parted-unlike s at = by (ltb (length s) (at + 2)) (eqb (ilenAt s at) 2) (ltb (length s) (at + 4)) (halfwordAt s at) (wordAt s at)
