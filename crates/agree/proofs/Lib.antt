@@ -1,5 +1,5 @@
 -- The theorems: of words and of halfwords that the entries tell the two readings, `agree`, `differ`, `unlike` and `manual-is`; and `agree` of the ALU, where no
--- difference is known.
+-- difference is known; and what the customer's short list of reserved halfwords missed.
 pub mod Alu
 mod AluBits
 mod AluBytes
