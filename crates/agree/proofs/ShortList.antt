@@ -40,22 +40,21 @@ missed-fields w h = fields (bitsAt w 0 2) 1 (bitsAt w 13 3) 3 (imm0 w) (missed-r
 pub missed-all : (rd : ℕ) → rd < 32 → T (listed missedEntries (0x6001 + 0x80 * rd))
 missed-all = at 32 (λ rd. listed missedEntries (0x6001 + 0x80 * rd)) tt
 
-from-bits : (w : ℕ) → w < 0x10000 → bitsAt w 0 2 ≡ 1 → bitsAt w 2 5 ≡ 0 → bitsAt w 12 1 ≡ 0 → bitsAt w 13 3 ≡ 3 → w ≡ 0x6001 + 0x80 * rd w
-from-bits w small low five one top =
+top-bits : (w : ℕ) → w < 0x10000 → bitsAt w 13 3 ≡ 3 → w / 8192 ≡ 3
+top-bits w small top = omega arith
+
+from-bits : (w : ℕ) → bitsAt w 0 2 ≡ 1 → bitsAt w 2 5 ≡ 0 → bitsAt w 12 1 ≡ 0 → w / 8192 ≡ 3 → w ≡ 0x6001 + 0x80 * rd w
+from-bits w low five one top =
     let a : w / 4 / 32 ≡ w / 128 = div-div-eq-div-mul w 4 32 in
     let b : w / 128 / 32 ≡ w / 4096 = div-div-eq-div-mul w 128 32 in
     let c : w / 4096 / 2 ≡ w / 8192 = div-div-eq-div-mul w 4096 2 in
-    let d : w / 8192 ≡ 3 = high w small top in
-    omega (arith, d)
-  where
-    high : (w : ℕ) → w < 0x10000 → bitsAt w 13 3 ≡ 3 → w / 8192 ≡ 3
-    high w small top = omega arith
+    omega arith
 
 pub missed-only : (w : ℕ) → w < 0x10000 → listed missedEntries w ≡ true → w ≡ 0x6001 + 0x80 * rd w
 missed-only w small h =
     let f = missed-fields w h in
     let k = and-both (eqb (bitsAt w 12 1) 0) (eqb (bitsAt w 2 5) 0) (f .2) in
-    from-bits w small (f .0) (eqb-true (bitsAt w 2 5) 0 (k .1)) (eqb-true (bitsAt w 12 1) 0 (k .0)) (f .1)
+    from-bits w (f .0) (eqb-true (bitsAt w 2 5) 0 (k .1)) (eqb-true (bitsAt w 12 1) 0 (k .0)) (top-bits w small (f .1))
 
 missed-told : Told missedEntries rustHalf manualHalf
 missed-told = (told .2 .0, told .2 .1, (told .2 .2 .0, told .2 .2 .1, tt))

@@ -182,14 +182,14 @@ kept-unlike raw None (Some op) p p′ u e = fell raw op (p′ op refl .0) (stops
 kept-unlike raw (Some op) None p p′ u e = fell raw op (p op refl .0) (stopsBlock raw) e
 kept-unlike raw (Some op) (Some op′) p p′ u e = u e
 
+-- forming in any reading, behind the checks
+abbrev formedBy : Answer → Reading → List ℕ → ℕ → ℕ → List ℕ → Answer × List ℕ
+formedBy judged reading memory base address lent = formedInto judged address (formed reading memory base address) lent
+
 -- readings that part at these halfwords and these words
 module _ (r r′ : Reading) (halves words : ℕ → Bool) where
   abbrev parted : List ℕ → ℕ → Bool
   parted = standsAt halves words
-
-  -- forming with an answer of the checks
-  abbrev formedBy : Answer → Reading → List ℕ → ℕ → ℕ → List ℕ → Answer × List ℕ
-  formedBy judged reading memory base address lent = formedInto judged address (formed reading memory base address) lent
 
   module _ (half-alike : (h : ℕ) → halves h ≡ false → r .ofHalf h ≡ r′ .ofHalf h) (word-alike : (w : ℕ) → words w ≡ false → r .ofWord w ≡ r′ .ofWord w) where
     pub parted-alike : (s : List ℕ) (at : ℕ) → parted s at ≡ false → opAt r s at ≡ opAt r′ s at
