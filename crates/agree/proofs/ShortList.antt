@@ -16,7 +16,7 @@ use Rattle.op.specs.declared.Decoded.the-variants.{None}
 use Rattle.halfword.specs.Instruction.{rd}
 use Rattle.halfword.specs.Halfword.{rustHalf}
 use Rattle.manual.specs.Halfwords.{manualHalf}
-use Rattle.agree.specs.Differences.{listed, Told, row, imm0, addiw0, addi16sp0, lui0, lwsp0, ldsp0, jr0, halfEntries}
+use Rattle.agree.specs.Differences.{listed, Told, row, imm0, addiw0, addi16sp0, lui0, lwsp0, ldsp0, jr0}
 use Rattle.agree.specs.ShortList.{shortEntries, missedEntries, shortHalf}
 use Rattle.agree.proofs.Entries.{lead, differ-by, fields, two-ask}
 use Rattle.agree.proofs.Halfwords.{told, half-is}

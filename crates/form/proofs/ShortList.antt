@@ -1,17 +1,16 @@
 -- The blocks that the manual's reading forms otherwise than the short list of reserved halfwords would have them, judged by their memory.
 -- Assumes nothing.
-use mathlib.Core.Path.{_≡_, refl, sym, ap, _∙_}
+use mathlib.Core.Path.{_≡_, refl, ap, _∙_}
 use mathlib.Core.Bool.{Bool, true, false, cond}
 use mathlib.Core.List.{List, [], _∷_, _++_}
-use Prim.Native.Nat.{ℕ, zero, suc, _+_, _-_, _<_}
+use Prim.Native.Nat.{ℕ, suc, _+_, _-_, _<_}
 use native.Mathlib.Omega.{arith}
 use lib.Dec.{eqb, ltb}
 use borrow.Author.Tests.{eqb-true}
 use lib.ListN.{length}
 use Rattle.answer.specs.declared.Refusal.the-variants.{NoOp}
-use Rattle.answer.specs.declared.Answer.{Answer}
 use Rattle.answer.specs.declared.Answer.the-variants.{Done, Refused}
-use Rattle.bits.specs.Bytes.{halfwordAt, wordAt}
+use Rattle.bits.specs.Bytes.{halfwordAt}
 use Rattle.bits.proofs.Tests.{true-false}
 use Rattle.op.specs.declared.Decoded.the-variants.{None}
 use Rattle.halfword.specs.Halfword.{rustHalf}

@@ -1,8 +1,7 @@
 -- What the fields of a word, or of a halfword, say of the entries that cover it, and so of what the manual reads it as.
 -- Assumes nothing.
 use mathlib.Core.Path.{_≡_, refl, sym, _∙_}
-use mathlib.Core.Bool.{Bool, true, false, cond, not, _&&_, _||_}
-use mathlib.Core.List.{List, [], _∷_}
+use mathlib.Core.Bool.{Bool, true, false, _&&_}
 use Prim.Native.Nat.{ℕ, _+_, _*_, _%_, _<_}
 use native.Mathlib.Omega.{arith}
 use lib.Dec.{eqb}
@@ -13,15 +12,12 @@ use Rattle.bits.proofs.Tests.{and-both, not-true}
 use Rattle.op.specs.declared.AluKind.{AluKind}
 use Rattle.op.specs.declared.Op.the-variants.{AluImm, AluReg}
 use Rattle.op.specs.declared.Decoded.{Decoded}
-use Rattle.op.specs.declared.Decoded.the-variants.{Some, None}
+use Rattle.op.specs.declared.Decoded.the-variants.{Some}
 use Rattle.word.specs.Instruction as inst
 use Rattle.word.specs.Word.{rustWord}
-use Rattle.halfword.specs.Halfword.{rustHalf}
 use Rattle.manual.specs.Words.{manualWord}
-use Rattle.manual.specs.Halfwords.{manualHalf}
-use Rattle.agree.specs.Differences.{Entry, listed, amended, imm, unary, reg, binary, row, halfEntries}
+use Rattle.agree.specs.Differences.{listed, imm, unary, reg, binary, row, halfEntries}
 use Rattle.agree.proofs.Words as words
-use Rattle.agree.proofs.Halfwords as halves
 
 -- an entry's answer, with the operands that the decoder read
 pub unary-made : (kind : AluKind) (w a b : ℕ) → a ≡ inst.rd w → b ≡ inst.rs1 w → {d : Decoded} → unary kind w ≡ d → Some (AluImm kind a b (pos 0)) ≡ d
