@@ -80,7 +80,7 @@ module _ (rust manual : ℕ → Decoded) where
       pick false p others a = others a
 
 -- entries at which the manual has no op
-abbrev pub Silent : List Entry → Type 0
+abbrev Silent : List Entry → Type 0
 Silent [] = Unit {0}
 Silent (e ∷ es) = ((w : ℕ) → e .manual w ≡ None) × Silent es
 

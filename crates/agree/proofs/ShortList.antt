@@ -7,18 +7,22 @@ use Prim.Native.Nat.{ℕ, _+_, _*_, _/_, _<_}
 use native.Mathlib.Nat.{div-div-eq-div-mul}
 use native.Mathlib.Omega.{arith}
 use lib.Dec.{T, eqb}
+use lib.IntN.{pos}
+use lib.ListN.{length}
 use borrow.Author.Tests.{eqb-true}
 use Rattle.bits.specs.Bits.{bitsAt}
 use Rattle.bits.proofs.Every.{at}
-use Rattle.bits.proofs.Tests.{and-both, true-false}
+use Rattle.bits.proofs.Tests.{and-both}
+use Rattle.op.specs.declared.AluKind.the-variants.{Add}
+use Rattle.op.specs.declared.Op.the-variants.{Lui, AluImm}
 use Rattle.op.specs.declared.Decoded.{Decoded}
-use Rattle.op.specs.declared.Decoded.the-variants.{None}
+use Rattle.op.specs.declared.Decoded.the-variants.{Some, None}
 use Rattle.halfword.specs.Instruction.{rd}
 use Rattle.halfword.specs.Halfword.{rustHalf}
 use Rattle.manual.specs.Halfwords.{manualHalf}
-use Rattle.agree.specs.Differences.{listed, Told, row, imm0, addiw0, addi16sp0, lui0, lwsp0, ldsp0, jr0}
-use Rattle.agree.specs.ShortList.{shortEntries, missedEntries, shortHalf}
-use Rattle.agree.proofs.Entries.{lead, differ-by, fields, two-ask}
+use Rattle.agree.specs.Differences.{listed, row, imm0, addiw0, addi16sp0, lui0, lwsp0, ldsp0, jr0}
+use Rattle.agree.specs.ShortList.{shortEntries, missedEntries, shortHalf, missedOp}
+use Rattle.agree.proofs.Entries.{lead, fields, two-ask}
 use Rattle.agree.proofs.Halfwords.{told, half-is}
 
 -- by the short list 0x6101 is the op that 0x0101 is to the manual: no record tells them apart, the memory does
@@ -56,9 +60,6 @@ missed-only w small h =
     let k = and-both (eqb (bitsAt w 12 1) 0) (eqb (bitsAt w 2 5) 0) (f .2) in
     from-bits w (f .0) (eqb-true (bitsAt w 2 5) 0 (k .1)) (eqb-true (bitsAt w 12 1) 0 (k .0)) (top-bits w small (f .1))
 
-missed-told : Told missedEntries rustHalf manualHalf
-missed-told = (told .2 .0, told .2 .1, (told .2 .2 .0, told .2 .2 .1, tt))
-
 module _ (w : ℕ) where
   abbrev behind : Bool
   behind = listed (lwsp0 ∷ ldsp0 ∷ jr0 ∷ []) w
@@ -66,25 +67,24 @@ module _ (w : ℕ) where
   short-by : (b : Bool) → listed missedEntries w ≡ b → shortHalf w ≡ cond b (rustHalf w) (manualHalf w)
   short-by b h = ap (λ (b : Bool). cond b (rustHalf w) (manualHalf w)) h
 
+  -- what the readings have at a missed halfword
+  pub missed-reads : listed missedEntries w ≡ true → (rustHalf w ≡ Some (missedOp w)) × (manualHalf w ≡ None)
+  missed-reads h = let f = missed-fields w h in by (f .0) (f .1) (f .2) (eqb (rd w) 2) refl
+    where
+      by : bitsAt w 0 2 ≡ 1 → bitsAt w 13 3 ≡ 3 → imm0 w ≡ true → (b : Bool) → eqb (rd w) 2 ≡ b
+          → (rustHalf w ≡ Some (cond b (AluImm Add 2 2 (pos 0)) (Lui (rd w) (pos 0)))) × (manualHalf w ≡ None)
+      by low top zero true e = told .2 .1 w (rw (low, top, e, zero) refl)
+      by low top zero false e = told .2 .2 .1 w (rw (low, top, e, zero) refl)
+
+  pub short-reads : listed missedEntries w ≡ true → shortHalf w ≡ Some (missedOp w)
+  short-reads h = short-by true h ∙ missed-reads h .0
+
   -- where the short list's reading and the manual's part
   pub short-alike : listed missedEntries w ≡ false → manualHalf w ≡ shortHalf w
   short-alike h = sym (short-by false h)
 
   pub short-unlike : listed missedEntries w ≡ true → lead (manualHalf w) ≡ lead (shortHalf w) → ⊥
-  short-unlike h e = differ-by rustHalf manualHalf missedEntries missed-told w tt h (sym (e ∙ ap lead (short-by true h)))
-
-  -- what each of them has there
-  pub short-rust : listed missedEntries w ≡ true → shortHalf w ≡ rustHalf w
-  short-rust = short-by true
-
-  pub missed-none : listed missedEntries w ≡ true → manualHalf w ≡ None
-  missed-none h = half-is w ∙ ap (λ (b : Bool). cond b None (rustHalf w)) (among (addiw0 .covers w) (addi16sp0 .covers w) (lui0 .covers w) behind h)
-    where
-      among : (a b c d : Bool) → (b || (c || false)) ≡ true → (a || (b || (c || d))) ≡ true
-      among true b c d h = refl
-      among false true c d h = refl
-      among false false true d h = refl
-      among false false false d h = absurd (true-false h refl)
+  short-unlike h e = let no : _≡_ {A = ℕ} 0 2 = ap length (sym (ap lead (missed-reads h .1)) ∙ e ∙ ap lead (short-reads h)) in omega arith
 
   -- so its reading is the Rust's, and none where one of its own entries stands
   pub short-is : shortHalf w ≡ cond (listed shortEntries w) None (rustHalf w)

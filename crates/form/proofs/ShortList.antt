@@ -6,21 +6,26 @@ use mathlib.Core.List.{List, [], _∷_, _++_}
 use Prim.Native.Nat.{ℕ, suc, _+_, _-_, _<_}
 use native.Mathlib.Omega.{arith}
 use lib.Dec.{eqb, ltb}
+use lib.IntN.{pos}
 use borrow.Author.Tests.{eqb-true}
 use lib.ListN.{length}
 use Rattle.answer.specs.declared.Refusal.the-variants.{NoOp}
 use Rattle.answer.specs.declared.Answer.the-variants.{Done, Refused}
 use Rattle.bits.specs.Bytes.{halfwordAt}
 use Rattle.bits.proofs.Tests.{true-false}
-use Rattle.op.specs.declared.Decoded.the-variants.{None}
-use Rattle.halfword.specs.Halfword.{rustHalf}
+use Rattle.op.specs.Record.{opFields}
+use Rattle.op.specs.declared.AluKind.the-variants.{Add}
+use Rattle.op.specs.declared.Op.the-variants.{Lui, AluImm}
+use Rattle.op.specs.declared.Decoded.the-variants.{Some, None}
+use Rattle.halfword.specs.Instruction.{rd}
 use Rattle.agree.specs.Differences.{listed}
-use Rattle.agree.specs.ShortList.{missedEntries}
-use Rattle.agree.proofs.ShortList.{short-alike, short-unlike, short-rust, missed-none}
+use Rattle.agree.specs.ShortList.{missedEntries, missedOp}
+use Rattle.agree.proofs.ShortList.{short-alike, short-unlike, short-reads, missed-reads}
 use Rattle.reading.specs.Readings.{manual, readingOf}
 use Rattle.reading.proofs.Proper.{word-proper}
 use Rattle.block.specs.Memory.{restOfPage}
-use Rattle.block.specs.Record.{Insn, byteLen, blockRecord}
+use Rattle.block.specs.Record.{Insn, insn, byteLen, blockRecord}
+use Rattle.block.specs.WellFormed.{jumps}
 use Rattle.form.specs.Forming.{ilenAt, opAt, andThen, opsFrom, formed}
 use Rattle.form.specs.Call.{formJudged, formedInto, formCall}
 use Rattle.form.specs.ShortList.{short, formShort, missedAt, meetsMissed}
@@ -41,11 +46,18 @@ module _ (s : List ℕ) (at : ℕ) (h : missedAt s at ≡ true) where
 
   none-there : opAt manual s at ≡ None
   unfolding opAt
-  none-there = rw (stands .0, stands .1) (missed-none (halfwordAt s at) (stands .2))
+  none-there = rw (stands .0, stands .1) (missed-reads (halfwordAt s at) (stands .2) .1)
 
-  rust-there : opAt short s at ≡ rustHalf (halfwordAt s at)
+  rust-there : opAt short s at ≡ Some (missedOp (halfwordAt s at))
   unfolding opAt
-  rust-there = rw (stands .0, stands .1) (short-rust (halfwordAt s at) (stands .2))
+  rust-there = rw (stands .0, stands .1) (short-reads (halfwordAt s at) (stands .2))
+
+no-jump : (w : ℕ) → jumps (opFields (missedOp w) .op) ≡ false
+no-jump w = by (eqb (rd w) 2)
+  where
+    by : (b : Bool) → jumps (opFields (cond b (AluImm Add 2 2 (pos 0)) (Lui (rd w) (pos 0))) .op) ≡ false
+    by true = refl
+    by false = refl
 
 module _ (memory : List ℕ) (base address : ℕ) (lent : List ℕ) where
   abbrev rest : List ℕ
@@ -68,21 +80,21 @@ module _ (memory : List ℕ) (base address : ℕ) (lent : List ℕ) where
   short-same-only judged e =
       forms-alike-only manual short (listed missedEntries) (λ w. false) short-alike (λ w h. refl) short-unlike (λ w h. absurd (true-false h refl)) (word-proper 1) (word-proper 1) memory base address lent (rw judged at e)
 
-  more : (at n : ℕ) → missedAt rest at ≡ true → n < 64
-      → opsFrom short rest (64 - n) at ≡ andThen (rustHalf (halfwordAt rest at)) 2 (opsFrom short rest (63 - n) (at + 2))
+  goes-on-from : (at n : ℕ) → missedAt rest at ≡ true → n < 64
+      → opsFrom short rest (64 - n) at ≡ insn (missedOp (halfwordAt rest at)) 2 ∷ opsFrom short rest (63 - n) (at + 2)
   unfolding opsFrom
-  more at n h l =
+  goes-on-from at n h l =
       let z : 64 - n ≡ suc (63 - n) = omega arith in
-      rw (z, rust-there rest at h, stands rest at h .1) refl
+      rw (z, rust-there rest at h, stands rest at h .1, no-jump (halfwordAt rest at)) refl
 
   -- where it meets one, one stands right behind the manual's block, and the short list's has the same ops, then the Rust's op of that halfword
   pub short-goes-on : meetsMissed memory base address ≡ true
       → (missedAt rest (byteLen ops) ≡ true)
-      × (formed short memory base address ≡ ops ++ andThen (rustHalf (halfwordAt rest (byteLen ops))) 2 (opsFrom short rest (63 - length ops) (byteLen ops + 2)))
+      × (formed short memory base address ≡ ops ++ (insn (missedOp (halfwordAt rest (byteLen ops))) 2 ∷ opsFrom short rest (63 - length ops) (byteLen ops + 2)))
   short-goes-on h =
       let z : 0 + byteLen ops ≡ byteLen ops = omega arith in
       let k = rw z at (ends-before manual short rest (missedAt rest) (parted-alike manual short (listed missedEntries) (λ w. false) short-alike (λ w h. refl) rest) (none-there rest) 64 0 h) in
-      (k .0, k .2 ∙ ap (λ (next : List Insn). ops ++ next) (more (byteLen ops) (length ops) (k .0) (k .1)))
+      (k .0, k .2 ∙ ap (λ (next : List Insn). ops ++ next) (goes-on-from (byteLen ops) (length ops) (k .0) (k .1)))
 
   none-first : missedAt rest 0 ≡ true → ops ≡ []
   unfolding opsFrom

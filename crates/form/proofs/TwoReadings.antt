@@ -187,16 +187,16 @@ abbrev formedBy : Answer → Reading → List ℕ → ℕ → ℕ → List ℕ �
 formedBy judged reading memory base address lent = formedInto judged address (formed reading memory base address) lent
 
 -- readings that part at these halfwords and these words
-module _ (r r′ : Reading) (halves words : ℕ → Bool) where
+module _ (r r′ : Reading) (partedHalf partedWord : ℕ → Bool) where
   abbrev parted : List ℕ → ℕ → Bool
-  parted = standsAt halves words
+  parted = standsAt partedHalf partedWord
 
-  module _ (half-alike : (h : ℕ) → halves h ≡ false → r .ofHalf h ≡ r′ .ofHalf h) (word-alike : (w : ℕ) → words w ≡ false → r .ofWord w ≡ r′ .ofWord w) where
+  module _ (half-alike : (h : ℕ) → partedHalf h ≡ false → r .ofHalf h ≡ r′ .ofHalf h) (word-alike : (w : ℕ) → partedWord w ≡ false → r .ofWord w ≡ r′ .ofWord w) where
     pub parted-alike : (s : List ℕ) (at : ℕ) → parted s at ≡ false → opAt r s at ≡ opAt r′ s at
     unfolding opAt
     parted-alike s at = by (ltb (length s) (at + 2)) (eqb (ilenAt s at) 2) (ltb (length s) (at + 4)) (halfwordAt s at) (wordAt s at)
       where
-        by : (a b c : Bool) (h w : ℕ) → cond a false (cond b (halves h) (cond c false (words w))) ≡ false
+        by : (a b c : Bool) (h w : ℕ) → cond a false (cond b (partedHalf h) (cond c false (partedWord w))) ≡ false
             → cond a None (cond b (r .ofHalf h) (cond c None (orFallback w (r .ofWord w)))) ≡ cond a None (cond b (r′ .ofHalf h) (cond c None (orFallback w (r′ .ofWord w))))
         by true b c h w e = refl
         by false true c h w e = half-alike h e
@@ -210,14 +210,14 @@ module _ (r r′ : Reading) (halves words : ℕ → Bool) where
         let s = restOfPage memory base address in
         ap (λ (ops : List Insn). formedInto judged address ops lent) (same-ops r r′ s (parted s) (parted-alike s) 64 0 h)
 
-    module _ (half-unlike : (h : ℕ) → halves h ≡ true → lead (r .ofHalf h) ≡ lead (r′ .ofHalf h) → ⊥)
-        (word-unlike : (w : ℕ) → words w ≡ true → lead (r .ofWord w) ≡ lead (r′ .ofWord w) → ⊥)
+    module _ (half-unlike : (h : ℕ) → partedHalf h ≡ true → lead (r .ofHalf h) ≡ lead (r′ .ofHalf h) → ⊥)
+        (word-unlike : (w : ℕ) → partedWord w ≡ true → lead (r .ofWord w) ≡ lead (r′ .ofWord w) → ⊥)
         (proper : (w : ℕ) → ProperIn (r .ofWord w)) (proper′ : (w : ℕ) → ProperIn (r′ .ofWord w)) where
       parted-unlike : (s : List ℕ) (at : ℕ) → parted s at ≡ true → lead (opAt r s at) ≡ lead (opAt r′ s at) → ⊥
       unfolding opAt
       parted-unlike s at = by (ltb (length s) (at + 2)) (eqb (ilenAt s at) 2) (ltb (length s) (at + 4)) (halfwordAt s at) (wordAt s at)
         where
-          by : (a b c : Bool) (h w : ℕ) → cond a false (cond b (halves h) (cond c false (words w))) ≡ true
+          by : (a b c : Bool) (h w : ℕ) → cond a false (cond b (partedHalf h) (cond c false (partedWord w))) ≡ true
               → lead (cond a None (cond b (r .ofHalf h) (cond c None (orFallback w (r .ofWord w))))) ≡ lead (cond a None (cond b (r′ .ofHalf h) (cond c None (orFallback w (r′ .ofWord w))))) → ⊥
           by true b c h w e = absurd (true-false e refl)
           by false true c h w e = half-unlike h e

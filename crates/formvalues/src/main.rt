@@ -1,5 +1,5 @@
-// The values on forming (docs/FORMATS.md, Values), through the public call, and three listings of one input in the Rust's reading.
-// A line of six numbers before these: the number, the record's address, count, byte_len, and the first op's number and kind. A record starts as 170s.
+// The values on forming (docs/FORMATS.md, Values), through the public call, with listings of small pages in both readings, and at the end three of one
+// input in the Rust's. A line of six numbers: the number, the record's address, count, byte_len, and the first op's number and kind. A record starts as 170s.
 use lines::number;
 
 // The readings, and a number that is none.
