@@ -29,7 +29,19 @@ use Rattle.block.specs.WellFormed.{jumps}
 use Rattle.form.specs.Forming.{ilenAt, opAt, andThen, opsFrom, formed}
 use Rattle.form.specs.Call.{formJudged, formedInto, formCall}
 use Rattle.form.specs.ShortList.{short, formShort, missedAt, meetsMissed}
-use Rattle.form.proofs.TwoReadings.{parted-alike, ends-before, forms-alike, forms-alike-only}
+use Rattle.form.proofs.TwoReadings.{Part, parted-alike, ends-before, forms-alike, forms-alike-only}
+
+-- the manual's reading and the short list's part at the missed halfwords, and at no word
+missed-part : Part manual short (listed missedEntries) (λ w. false)
+unfolding readingOf
+missed-part =
+    record {
+      half-alike = short-alike;
+      half-unlike = short-unlike;
+      word-alike = λ w h. refl;
+      word-unlike = λ w h. absurd (true-false h refl);
+      word-proper = λ w. (word-proper 1 w, word-proper 1 w);
+    }
 
 -- what stands at a missed halfword's offset
 module _ (s : List ℕ) (at : ℕ) (h : missedAt s at ≡ true) where
@@ -71,14 +83,14 @@ module _ (memory : List ℕ) (base address : ℕ) (lent : List ℕ) where
   pub short-same : meetsMissed memory base address ≡ false → formCall 1 memory base address lent ≡ formShort memory base address lent
   unfolding formCall readingOf
   short-same =
-      forms-alike manual short (listed missedEntries) (λ w. false) short-alike (λ w h. refl) (formJudged 1 (length memory) (length lent) base address) memory base address lent
+      forms-alike missed-part memory base address lent (formJudged 1 (length memory) (length lent) base address)
 
   -- and one that is the same met none
   pub short-same-only : formJudged 1 (length memory) (length lent) base address ≡ Done → formCall 1 memory base address lent ≡ formShort memory base address lent
       → meetsMissed memory base address ≡ false
   unfolding formCall readingOf
   short-same-only judged e =
-      forms-alike-only manual short (listed missedEntries) (λ w. false) short-alike (λ w h. refl) short-unlike (λ w h. absurd (true-false h refl)) (word-proper 1) (word-proper 1) memory base address lent (rw judged at e)
+      forms-alike-only missed-part memory base address lent (rw judged at e)
 
   goes-on-from : (at n : ℕ) → missedAt rest at ≡ true → n < 64
       → opsFrom short rest (64 - n) at ≡ insn (missedOp (halfwordAt rest at)) 2 ∷ opsFrom short rest (63 - n) (at + 2)
@@ -93,7 +105,7 @@ module _ (memory : List ℕ) (base address : ℕ) (lent : List ℕ) where
       × (formed short memory base address ≡ ops ++ (insn (missedOp (halfwordAt rest (byteLen ops))) 2 ∷ opsFrom short rest (63 - length ops) (byteLen ops + 2)))
   short-goes-on h =
       let z : 0 + byteLen ops ≡ byteLen ops = omega arith in
-      let k = rw z at (ends-before manual short rest (missedAt rest) (parted-alike manual short (listed missedEntries) (λ w. false) short-alike (λ w h. refl) rest) (none-there rest) 64 0 h) in
+      let k = rw z at (ends-before manual short rest (missedAt rest) (parted-alike missed-part rest) (none-there rest) 64 0 h) in
       (k .0, k .2 ∙ ap (λ (next : List Insn). ops ++ next) (goes-on-from (byteLen ops) (length ops) (k .0) (k .1)))
 
   none-first : missedAt rest 0 ≡ true → ops ≡ []

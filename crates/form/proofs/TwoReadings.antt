@@ -186,63 +186,76 @@ kept-unlike raw (Some op) (Some op′) p p′ u e = u e
 abbrev formedBy : Answer → Reading → List ℕ → ℕ → ℕ → List ℕ → Answer × List ℕ
 formedBy judged reading memory base address lent = formedInto judged address (formed reading memory base address) lent
 
--- readings that part at these halfwords and these words
-module _ (r r′ : Reading) (partedHalf partedWord : ℕ → Bool) where
+-- two readings that part at these halfwords and words: elsewhere they read alike, and there they differ in more than operands
+pub record Part (r r′ : Reading) (half word : ℕ → Bool) : Type 0 where
+  pub half-alike : (h : ℕ) → half h ≡ false → r .ofHalf h ≡ r′ .ofHalf h
+  pub half-unlike : (h : ℕ) → half h ≡ true → lead (r .ofHalf h) ≡ lead (r′ .ofHalf h) → ⊥
+  pub word-alike : (w : ℕ) → word w ≡ false → r .ofWord w ≡ r′ .ofWord w
+  pub word-unlike : (w : ℕ) → word w ≡ true → lead (r .ofWord w) ≡ lead (r′ .ofWord w) → ⊥
+  pub word-proper : (w : ℕ) → ProperIn (r .ofWord w) × ProperIn (r′ .ofWord w)
+
+module _ {r r′ : Reading} {half word : ℕ → Bool} (p : Part r r′ half word) where
   abbrev parted : List ℕ → ℕ → Bool
-  parted = standsAt partedHalf partedWord
+  parted = standsAt half word
 
-  module _ (half-alike : (h : ℕ) → partedHalf h ≡ false → r .ofHalf h ≡ r′ .ofHalf h) (word-alike : (w : ℕ) → partedWord w ≡ false → r .ofWord w ≡ r′ .ofWord w) where
-    pub parted-alike : (s : List ℕ) (at : ℕ) → parted s at ≡ false → opAt r s at ≡ opAt r′ s at
-    unfolding opAt
-    parted-alike s at = by (ltb (length s) (at + 2)) (eqb (ilenAt s at) 2) (ltb (length s) (at + 4)) (halfwordAt s at) (wordAt s at)
-      where
-        by : (a b c : Bool) (h w : ℕ) → cond a false (cond b (partedHalf h) (cond c false (partedWord w))) ≡ false
-            → cond a None (cond b (r .ofHalf h) (cond c None (orFallback w (r .ofWord w)))) ≡ cond a None (cond b (r′ .ofHalf h) (cond c None (orFallback w (r′ .ofWord w))))
-        by true b c h w e = refl
-        by false true c h w e = half-alike h e
-        by false false true h w e = refl
-        by false false false h w e = ap (orFallback w) (word-alike w e)
+  pub parted-alike : (s : List ℕ) (at : ℕ) → parted s at ≡ false → opAt r s at ≡ opAt r′ s at
+  unfolding opAt
+  parted-alike s at = by (ltb (length s) (at + 2)) (eqb (ilenAt s at) 2) (ltb (length s) (at + 4)) (halfwordAt s at) (wordAt s at)
+    where
+      by : (a b c : Bool) (h w : ℕ) → cond a false (cond b (half h) (cond c false (word w))) ≡ false
+          → cond a None (cond b (r .ofHalf h) (cond c None (orFallback w (r .ofWord w)))) ≡ cond a None (cond b (r′ .ofHalf h) (cond c None (orFallback w (r′ .ofWord w))))
+      by true b c h w e = refl
+      by false true c h w e = p .half-alike h e
+      by false false true h w e = refl
+      by false false false h w e = ap (orFallback w) (p .word-alike w e)
 
+  parted-unlike : (s : List ℕ) (at : ℕ) → parted s at ≡ true → lead (opAt r s at) ≡ lead (opAt r′ s at) → ⊥
+  unfolding opAt
+  parted-unlike s at = by (ltb (length s) (at + 2)) (eqb (ilenAt s at) 2) (ltb (length s) (at + 4)) (halfwordAt s at) (wordAt s at)
+    where
+      by : (a b c : Bool) (h w : ℕ) → cond a false (cond b (half h) (cond c false (word w))) ≡ true
+          → lead (cond a None (cond b (r .ofHalf h) (cond c None (orFallback w (r .ofWord w))))) ≡ lead (cond a None (cond b (r′ .ofHalf h) (cond c None (orFallback w (r′ .ofWord w))))) → ⊥
+      by true b c h w e = absurd (true-false e refl)
+      by false true c h w e = p .half-unlike h e
+      by false false true h w e = absurd (true-false e refl)
+      by false false false h w e = kept-unlike w (r .ofWord w) (r′ .ofWord w) (p .word-proper w .0) (p .word-proper w .1) (p .word-unlike w e)
+
+  module _ (memory : List ℕ) (base address : ℕ) (lent : List ℕ) where
     -- a block whose walk meets none of these is the same in both
-    pub forms-alike : (judged : Answer) (memory : List ℕ) (base address : ℕ) (lent : List ℕ) → walkMeets parted r memory base address ≡ false
-        → formedBy judged r memory base address lent ≡ formedBy judged r′ memory base address lent
-    forms-alike judged memory base address lent h =
+    pub forms-alike : (judged : Answer) → walkMeets parted r memory base address ≡ false → formedBy judged r memory base address lent ≡ formedBy judged r′ memory base address lent
+    forms-alike judged h =
         let s = restOfPage memory base address in
         ap (λ (ops : List Insn). formedInto judged address ops lent) (same-ops r r′ s (parted s) (parted-alike s) 64 0 h)
 
-    module _ (half-unlike : (h : ℕ) → partedHalf h ≡ true → lead (r .ofHalf h) ≡ lead (r′ .ofHalf h) → ⊥)
-        (word-unlike : (w : ℕ) → partedWord w ≡ true → lead (r .ofWord w) ≡ lead (r′ .ofWord w) → ⊥)
-        (proper : (w : ℕ) → ProperIn (r .ofWord w)) (proper′ : (w : ℕ) → ProperIn (r′ .ofWord w)) where
-      parted-unlike : (s : List ℕ) (at : ℕ) → parted s at ≡ true → lead (opAt r s at) ≡ lead (opAt r′ s at) → ⊥
-      unfolding opAt
-      parted-unlike s at = by (ltb (length s) (at + 2)) (eqb (ilenAt s at) 2) (ltb (length s) (at + 4)) (halfwordAt s at) (wordAt s at)
-        where
-          by : (a b c : Bool) (h w : ℕ) → cond a false (cond b (partedHalf h) (cond c false (partedWord w))) ≡ true
-              → lead (cond a None (cond b (r .ofHalf h) (cond c None (orFallback w (r .ofWord w))))) ≡ lead (cond a None (cond b (r′ .ofHalf h) (cond c None (orFallback w (r′ .ofWord w))))) → ⊥
-          by true b c h w e = absurd (true-false e refl)
-          by false true c h w e = half-unlike h e
-          by false false true h w e = absurd (true-false e refl)
-          by false false false h w e = kept-unlike w (r .ofWord w) (r′ .ofWord w) (proper w) (proper′ w) (word-unlike w e)
+    -- and one that is the same met none
+    pub forms-alike-only : formedBy Done r memory base address lent ≡ formedBy Done r′ memory base address lent → walkMeets parted r memory base address ≡ false
+    forms-alike-only e =
+        let s = restOfPage memory base address in
+        let t = into-tells address lent (opsFrom r s 64 0) (opsFrom r′ s 64 0) (ops-few r s 64 0) (ops-few r′ s 64 0) e in
+        not-true (walkMeets parted r memory base address)
+        (λ h. other-records r r′ s (parted s) (parted-alike s) (parted-unlike s) 64 0 _ _ h (t .0) (t .1))
 
-      -- and one that is the same met none
-      pub forms-alike-only : (memory : List ℕ) (base address : ℕ) (lent : List ℕ) → formedBy Done r memory base address lent ≡ formedBy Done r′ memory base address lent
-          → walkMeets parted r memory base address ≡ false
-      forms-alike-only memory base address lent e =
-          let s = restOfPage memory base address in
-          let t = into-tells address lent (opsFrom r s 64 0) (opsFrom r′ s 64 0) (ops-few r s 64 0) (ops-few r′ s 64 0) e in
-          not-true (walkMeets parted r memory base address)
-          (λ h. other-records r r′ s (parted s) (parted-alike s) (parted-unlike s) 64 0 _ _ h (t .0) (t .1))
+-- the Rust's reading and the manual's part at the entries
+entries-part : Part rust manual (listed halfEntries) (listed wordEntries)
+unfolding readingOf
+entries-part =
+    record {
+      half-alike = halves.agree;
+      half-unlike = halves.unlike;
+      word-alike = words.agree;
+      word-unlike = words.unlike;
+      word-proper = λ w. (word-proper 0 w, word-proper 1 w);
+    }
 
 -- for whoever moves a plant from one reading to the other
 module _ (memory : List ℕ) (base address : ℕ) (lent : List ℕ) where
   -- a block whose walk meets no entry is the same in both
   pub same-block : meetsDifference memory base address ≡ false → formCall 0 memory base address lent ≡ formCall 1 memory base address lent
   unfolding formCall readingOf
-  same-block = forms-alike rust manual (listed halfEntries) (listed wordEntries) halves.agree words.agree (formJudged 0 (length memory) (length lent) base address) memory base address lent
+  same-block = forms-alike entries-part memory base address lent (formJudged 0 (length memory) (length lent) base address)
 
   -- and one that is the same met none
   pub same-block-only : formJudged 0 (length memory) (length lent) base address ≡ Done → formCall 0 memory base address lent ≡ formCall 1 memory base address lent
       → meetsDifference memory base address ≡ false
   unfolding formCall readingOf
-  same-block-only judged e =
-      forms-alike-only rust manual (listed halfEntries) (listed wordEntries) halves.agree words.agree halves.unlike words.unlike (word-proper 0) (word-proper 1) memory base address lent (rw judged at e)
+  same-block-only judged e = forms-alike-only entries-part memory base address lent (rw judged at e)
