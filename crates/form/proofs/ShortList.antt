@@ -26,7 +26,7 @@ use Rattle.reading.proofs.Proper.{word-proper}
 use Rattle.block.specs.Memory.{restOfPage}
 use Rattle.block.specs.Record.{Insn, insn, byteLen, blockRecord}
 use Rattle.block.specs.WellFormed.{jumps}
-use Rattle.form.specs.Forming.{ilenAt, opAt, andThen, opsFrom, formed}
+use Rattle.form.specs.Forming.{ilenAt, opAt, opsFrom, formed}
 use Rattle.form.specs.Call.{formJudged, formedInto, formCall}
 use Rattle.form.specs.ShortList.{short, formShort, missedAt, meetsMissed}
 use Rattle.form.proofs.TwoReadings.{Part, parted-alike, ends-before, forms-alike, forms-alike-only}
