@@ -7,6 +7,7 @@ ghost use Rattle.alu.specs.Call.{aluCall};
 ghost use Rattle.form.specs.Call.{formCall};
 ghost use Rattle.cache.specs.Answers.{lookupNumber, lookupValue};
 ghost use Rattle.cache.specs.Calls.{makeCall, lookupCall, insertCall, noticeCall, flushCall, generationCall};
+ghost use Rattle.notices.specs.Notices.{noticesCall};
 ghost use Rattle.write.specs.Write.{writeCall};
 ghost use Rattle.unvriscol.specs.Seen.{both, reportSeen, seen, seenWithTwo};
 use cache::ReportAnswer;
@@ -117,6 +118,15 @@ pub extern "C" fn uv_notice(store: &mut [u8], address: u64) -> NumberedReport
     ensures { λ r. ⌜ ((r .number, r .examined, r .dropped), now (store .exit)) ≡ seen reportSeen (noticeCall (now (store .entry)) address) ⌝ }
 {
     let answer = cache::notice(store, address);
+    report_seen(answer)
+}
+
+// Notices writes that were done at the addresses of the list.
+#[no_mangle]
+pub extern "C" fn uv_notices(store: &mut [u8], addresses: &[u64]) -> NumberedReport
+    ensures { λ r. ⌜ ((r .number, r .examined, r .dropped), now (store .exit)) ≡ seen reportSeen (noticesCall (now (store .entry)) (now (addresses .entry))) ⌝ }
+{
+    let answer = notices::notices(store, addresses);
     report_seen(answer)
 }
 

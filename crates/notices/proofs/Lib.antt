@@ -1,0 +1,1 @@
+-- That the order and the number of notices do not matter, and that their sums are small.

@@ -1,0 +1,2 @@
+-- What a list of notices answers and leaves behind.
+pub mod Notices
