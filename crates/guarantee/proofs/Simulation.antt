@@ -26,8 +26,8 @@ use Rattle.store.proofs.View.{opened-flushed, generation-flushed, bits-flushed,
 use Rattle.cache.specs.Answers.{nothingDone}
 use Rattle.cache.specs.Calls.{insertJudged, watched, evicted, noticedIn, droppedIn, reportIn, summed, insertedIn}
 use Rattle.cache.specs.declared.Judged.the-variants.{Accepted}
-use Rattle.cache.specs.declared.Report.{Report}
 use Rattle.cache.proofs.Checks.{opened-fits, insert-taken}
+use Rattle.cache.proofs.Reports.{same-report, summed-none}
 use Rattle.cache.proofs.View.{opened-evicted, generation-evicted, bits-evicted, place-evicted, opened-inserted, generation-inserted, bits-inserted, place-inserted, report-apart}
 use Rattle.write.specs.Write.{noticedPages, reportPages}
 use Rattle.history.specs.History.{Event, inserted, touched, flushed, Every, none-left, and-then, insertions, shown, marked}
@@ -87,9 +87,6 @@ same-test g a q b h =
     decide ((a - g .base) / 4096) q
     (λ e. eq-eqb ((a - g .base) / 4096) q e ∙ sym (eq-eqb (pageOf a) (pageOf (g .base) + q) (page-shift g a b h ∙ ap (λ (k : ℕ). pageOf (g .base) + k) e)))
     (λ n. ne-eqb ((a - g .base) / 4096) q n ∙ sym (ne-eqb (pageOf a) (pageOf (g .base) + q) (λ e. n (omega (arith, page-shift g a b h)))))
-
-pub same-report : {p q : Report} → p .examined ≡ q .examined → p .dropped ≡ q .dropped → p ≡ q
-same-report e d = ap₂ (λ (n k : ℕ). record { examined = n; dropped = k }) e d
 
 -- the addresses of a page
 abbrev pub firstOf : ℕ → ℕ
@@ -237,13 +234,6 @@ module _ (g : Geometry) (h : List Event) (s : List ℕ) (y : Stands g h s) where
         go true e = rw e (swept-places (sym (watched-marked a) ∙ e) (and-both (holds g a) _ e .0))
         go false e = rw e (unwatched (sym (watched-marked a) ∙ e))
 
--- the first report of a sum
-pub alone : (r : Report) → summed nothingDone r ≡ r
-alone r = same-report (sum (r .examined)) (sum (r .dropped))
-  where
-    sum : (n : ℕ) → 0 + n ≡ n
-    sum n = omega arith
-
 -- the notices of a write from a to b
 module _ (g : Geometry) (h : List Event) (s : List ℕ) (y : Stands g h s) (a b : ℕ) where
   second : Stands g (touched (pageOf a) ∷ h) (noticedIn g s a)
@@ -254,7 +244,7 @@ module _ (g : Geometry) (h : List Event) (s : List ℕ) (y : Stands g h s) (a b 
   write-reports = go (eqb (pageOf a) (pageOf b)) refl
     where
       first : reportIn g s a ≡ summed nothingDone (report g h (pageOf a))
-      first = notice-reports g h s y a ∙ sym (alone (report g h (pageOf a)))
+      first = notice-reports g h s y a ∙ sym (summed-none (report g h (pageOf a)))
 
       -- the first page's notice leaves the second's report
       last : eqb (pageOf a) (pageOf b) ≡ false → reportIn g s b ≡ report g (touched (pageOf a) ∷ h) (pageOf b)
