@@ -1,6 +1,6 @@
 -- What the calls since the last accepted Make reported is the sum that their past gives: so at most 2 ^ e slots for each accepted insertion of it, and one place.
 -- Assumes nothing.
-use mathlib.Core.Path.{_≡_, refl, sym, ap, ap₂, subst, _∙_}
+use mathlib.Core.Path.{_≡_, refl, ap, ap₂, subst, _∙_}
 use mathlib.Core.List.{List, [], _∷_, _++_}
 use Prim.Native.Nat.{ℕ, _*_, _^_, _≤_}
 use lib.ListN.{length}
@@ -18,11 +18,11 @@ use Rattle.write.specs.Write.{writeJudged}
 use Rattle.history.specs.History.{Event, inserted, touched, flushed, insertions, total}
 use Rattle.history.proofs.Bound.{bound}
 use Rattle.history.proofs.Dropped.{dropped-bound}
-use Rattle.guarantee.specs.Calls.{Use, lookup, insert, notice, flush, generation, write, Call, make, uses, Lent, done, run}
+use Rattle.guarantee.specs.Calls.{Use, lookup, insert, notice, notices, flush, generation, write, Call, make, uses, Lent, done, run}
 use Rattle.guarantee.specs.Past.{Past, unmade, since, pageOf, ifAccepted, events, grown, past, pastOf}
 use Rattle.guarantee.specs.Stands.{Stands, Follows}
 use Rattle.guarantee.specs.Answers.{report, reports, writeAnswered, reportedBy, spent}
-use Rattle.guarantee.proofs.Simulation.{firstOf, in-page, its-page, notice-reports}
+use Rattle.guarantee.proofs.Simulation.{firstOf, in-page, its-page, touch-reports, notices-reports}
 use Rattle.guarantee.proofs.Run.{kept}
 use Rattle.guarantee.proofs.Guarantee.{write-is}
 
@@ -47,7 +47,8 @@ call-reports g h l y (insert a rec) = go (insertJudged (Sound g) a rec) refl
     go : (j : Judged) → insertJudged (Sound g) a rec ≡ j → nothingDone ≡ reports g h (events (length (l .memory)) g (insert a rec))
     go (Accepted k) e = rw e
     go (Rejected why) e = rw e
-call-reports g h l y (notice a) = rw (y .sound) (notice-reports g h (l .store) y a ∙ sym (summed-none (report g h (pageOf a))))
+call-reports g h l y (notice a) = rw (y .sound) (touch-reports g h (l .store) y a)
+call-reports g h l y (notices list) = rw (y .sound) (notices-reports g h (l .store) y list)
 call-reports g h l y flush = refl
 call-reports g h l y generation = refl
 call-reports g h l y (write a n v) = ap reported (write-is g h (l .store) y (l .memory) a n v) ∙ go (writeJudged (Sound g) (length (l .memory)) a n) refl
