@@ -27,7 +27,7 @@ use Rattle.guarantee.proofs.Run.{kept}
 use Rattle.guarantee.proofs.Guarantee.{write-is}
 
 -- of two reports on top of a third, either may come first
-turned : (x y z : Report) → summed (summed x y) z ≡ summed y (summed x z)
+pub turned : (x y z : Report) → summed (summed x y) z ≡ summed y (summed x z)
 turned x y z = ap (λ (r : Report). summed r z) (summed-comm x y) ∙ summed-assoc y x z
 
 -- what a call's events report comes on top of what the past has
