@@ -74,32 +74,35 @@ one-across s a b w = go (eqb (pageOf a) (pageOf b)) refl w
 over-one : (s list : List ℕ) → 1 ≤ hitsOver s list → HitOver s list
 unfolding hitsOver names
 over-one s [] c = absurd (omega arith)
-over-one s (a ∷ rest) c = go (over-one s rest) (names rest (pageOf a)) c
+over-one s (a ∷ rest) c = decide (hitsIn s (pageOf a)) 0 (λ e. later (over-one s rest (omega (arith, most (names rest (pageOf a)) refl)))) (λ d. here (hits-one s (pageOf a) (omega arith)))
   where
+    most : (t : Bool) → names rest (pageOf a) ≡ t → hitsOver s (a ∷ rest) ≤ hitsIn s (pageOf a) + hitsOver s rest
+    most true n = rw n (omega arith)
+    most false n = rw n (omega arith)
+
     here : HitIn s (pageOf a) → HitOver s (a ∷ rest)
     here w = record { address = w .address; in-pages = rw (eq-eqb (pageOf a) (pageOf (w .address)) (sym (w .in-page))); hits = w .hits }
 
     later : HitOver s rest → HitOver s (a ∷ rest)
-    later w = record { address = w .address; in-pages = either (eqb (pageOf a) (pageOf (w .address))); hits = w .hits }
+    later w = record { address = w .address; in-pages = go (eqb (pageOf a) (pageOf (w .address))); hits = w .hits }
       where
-        either : (t : Bool) → (t || names rest (pageOf (w .address))) ≡ true
-        either true = refl
-        either false = w .in-pages
-
-    go : (1 ≤ hitsOver s rest → HitOver s rest) → (t : Bool) → 1 ≤ cond t (hitsOver s rest) (hitsIn s (pageOf a) + hitsOver s rest) → HitOver s (a ∷ rest)
-    go ih true c = later (ih c)
-    go ih false c = decide (hitsIn s (pageOf a)) 0 (λ e. later (ih (omega arith))) (λ d. here (hits-one s (pageOf a) (omega arith)))
+        go : (t : Bool) → (t || names rest (pageOf (w .address))) ≡ true
+        go true = refl
+        go false = w .in-pages
 
 one-over : (s list : List ℕ) → HitOver s list → 1 ≤ hitsOver s list
 unfolding hitsOver names
 one-over s [] w = absurd (false≢true (w .in-pages))
-one-over s (a ∷ rest) w = go (λ n. one-over s rest (record { address = w .address; in-pages = n; hits = w .hits })) (eqb (pageOf a) (pageOf (w .address))) refl (names rest (pageOf a)) refl (w .in-pages)
+one-over s (a ∷ rest) w = go (λ n. one-over s rest (record { address = w .address; in-pages = n; hits = w .hits })) (eqb (pageOf a) page) refl (names rest (pageOf a)) refl (w .in-pages)
   where
-    go : (names rest (pageOf (w .address)) ≡ true → 1 ≤ hitsOver s rest) → (t : Bool) → eqb (pageOf a) (pageOf (w .address)) ≡ t → (u : Bool) → names rest (pageOf a) ≡ u → (t || names rest (pageOf (w .address))) ≡ true → 1 ≤ cond u (hitsOver s rest) (hitsIn s (pageOf a) + hitsOver s rest)
-    go ih true e true n k = ih (ap (names rest) (sym (eqb-true (pageOf a) (pageOf (w .address)) e)) ∙ n)
-    go ih true e false n k = omega (arith, one-hits s (pageOf a) (record { address = w .address; in-page = sym (eqb-true (pageOf a) (pageOf (w .address)) e); hits = w .hits }))
-    go ih false e true n k = ih k
-    go ih false e false n k = omega (arith, ih k)
+    page : ℕ
+    page = pageOf (w .address)
+
+    go : (names rest page ≡ true → 1 ≤ hitsOver s rest) → (t : Bool) → eqb (pageOf a) page ≡ t → (u : Bool) → names rest (pageOf a) ≡ u → (t || names rest page) ≡ true → 1 ≤ hitsOver s (a ∷ rest)
+    go ih true e true n k = rw n (omega (arith, ih (ap (names rest) (sym (eqb-true (pageOf a) page e)) ∙ n)))
+    go ih true e false n k = rw n (omega (arith, one-hits s (pageOf a) (record { address = w .address; in-page = sym (eqb-true (pageOf a) page e); hits = w .hits })))
+    go ih false e true n k = rw n (omega (arith, ih k))
+    go ih false e false n k = rw n (omega (arith, ih k))
 
 -- in a store that stands for a past
 module _ (g : Geometry) (h : List Event) (s : List ℕ) (y : Stands g h s) where
@@ -124,11 +127,11 @@ module _ (g : Geometry) (h : List Event) (s : List ℕ) (y : Stands g h s) where
   list-drops : (list : List ℕ) → reportOnce g s list .dropped ≡ hitsOver s list
   unfolding reportOnce hitsOver
   list-drops [] = refl
-  list-drops (a ∷ rest) = go (names rest (pageOf a)) (list-drops rest)
+  list-drops (a ∷ rest) = go (names rest (pageOf a)) refl (list-drops rest)
     where
-      go : (t : Bool) → reportOnce g s rest .dropped ≡ hitsOver s rest → cond t (reportOnce g s rest) (summed (reportIn g s a) (reportOnce g s rest)) .dropped ≡ cond t (hitsOver s rest) (hitsIn s (pageOf a) + hitsOver s rest)
-      go true ih = ih
-      go false ih = ap₂ _+_ (notice-drops a) ih
+      go : (t : Bool) → names rest (pageOf a) ≡ t → reportOnce g s rest .dropped ≡ hitsOver s rest → reportOnce g s (a ∷ rest) .dropped ≡ hitsOver s (a ∷ rest)
+      go true n ih = rw n ih
+      go false n ih = rw n (ap₂ _+_ (notice-drops a) ih)
 
   write-drops : (m : List ℕ) (a n v : ℕ) (r : Report) → writeCall s m a n v .0 ≡ Reported r → r .dropped ≡ hitsAcross s a (a + n - 1)
   write-drops m a n v r q = go (writeJudged (Sound g) (length m) a n) refl (rw (y .sound) at q)
