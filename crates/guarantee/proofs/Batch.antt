@@ -1,14 +1,15 @@
 -- A list of notices is its notices, one after the other: in any history, on any bytes, the same buffers, the same past and the same sums.
 -- Assumes nothing.
-use mathlib.Core.Path.{_≡_, refl, sym, ap, ap₂, _∙_}
+use mathlib.Core.Path.{_≡_, refl, sym, ap, _∙_}
 use mathlib.Core.List.{List, [], _∷_, _++_, append-assoc}
 use Prim.Native.Nat.{ℕ}
 use lib.ListN.{length}
-use Rattle.cache.specs.Answers.{nothingDone, reported}
+use Rattle.cache.specs.Answers.{reported}
 use Rattle.cache.specs.Calls.{noticeCall, summed}
 use Rattle.cache.specs.declared.Report.{Report}
 use Rattle.cache.proofs.Reports.{summed-none}
 use Rattle.notices.specs.Notices.{noticesCall}
+use Rattle.notices.proofs.Order.{none-store, none-report, next-store, next-report}
 use Rattle.history.specs.History.{touched}
 use Rattle.guarantee.specs.Calls.{notice, notices, Call, uses, Lent, storing, done, run, eachNotice}
 use Rattle.guarantee.specs.Past.{Past, unmade, since, pageOf, touches, events, grown, past, pastOf}
@@ -22,11 +23,7 @@ module _ {A : Type 0} (tells : List Call → A) (none : (calls : List Call) → 
   one-by-one [] calls = none calls
   one-by-one (a ∷ rest) calls = next a rest calls ∙ one-by-one rest (uses (notice a) ∷ calls) ∙ ap tells (sym (append-assoc (eachNotice rest) (uses (notice a) ∷ []) calls))
 
-module _ (none-store : (s : List ℕ) → noticesCall s [] .1 ≡ s)
-         (none-report : (s : List ℕ) → reported (noticesCall s [] .0) ≡ nothingDone)
-         (next-store : (s : List ℕ) (a : ℕ) (rest : List ℕ) → noticesCall s (a ∷ rest) .1 ≡ noticesCall (noticeCall s a .1) rest .1)
-         (next-report : (s : List ℕ) (a : ℕ) (rest : List ℕ) → reported (noticesCall s (a ∷ rest) .0) ≡ summed (reported (noticeCall s a .0)) (reported (noticesCall (noticeCall s a .1) rest .0)))
-         (l : Lent) where
+module _ (l : Lent) where
   pub notices-run : (list : List ℕ) (calls : List Call) → run (uses (notices list) ∷ calls) l ≡ run (eachNotice list ++ calls) l
   unfolding run done
   notices-run =
@@ -49,7 +46,12 @@ module _ (none-store : (s : List ℕ) → noticesCall s [] .1 ≡ s)
 
     pub notices-spent : (list : List ℕ) (calls : List Call) → spent p (uses (notices list) ∷ calls) l ≡ spent p (eachNotice list ++ calls) l
     unfolding spent run done
-    notices-spent =
-        one-by-one (λ calls. spent p calls l)
-        (λ calls. ap (λ (r : Report). summed r (spent p calls l)) (none-report (run calls l .store)) ∙ summed-none (spent p calls l))
-        (λ a rest calls. ap (λ (r : Report). summed r (spent p calls l)) (next-report (run calls l .store) a rest) ∙ turned (reported (noticeCall (run calls l .store) a .0)) (reported (noticesCall (noticeCall (run calls l .store) a .1) rest .0)) (spent p calls l))
+    notices-spent = one-by-one (λ calls. spent p calls l) none next
+      where
+        none : (calls : List Call) → spent p (uses (notices []) ∷ calls) l ≡ spent p calls l
+        none calls = ap (λ (r : Report). summed r (spent p calls l)) (none-report (run calls l .store)) ∙ summed-none (spent p calls l)
+
+        next : (a : ℕ) (rest : List ℕ) (calls : List Call) → spent p (uses (notices (a ∷ rest)) ∷ calls) l ≡ spent p (uses (notices rest) ∷ uses (notice a) ∷ calls) l
+        next a rest calls =
+            let s = run calls l .store in
+            ap (λ (r : Report). summed r (spent p calls l)) (next-report s a rest) ∙ turned (reported (noticeCall s a .0)) (reported (noticesCall (noticeCall s a .1) rest .0)) (spent p calls l)

@@ -13,7 +13,7 @@ use borrow.Author.Tests.{eqb-true, eq-eqb}
 use Rattle.bits.proofs.Count.{count-same, count-some, some-count}
 use Rattle.bits.proofs.Every.{decide}
 use Rattle.answer.specs.declared.Refusal.{Refusal}
-use Rattle.store.specs.Layout.{slotOf, Fitting}
+use Rattle.store.specs.Layout.{slotOf}
 use Rattle.store.specs.declared.Geometry.{Geometry}
 use Rattle.store.specs.declared.Opened.the-variants.{Sound}
 use Rattle.cache.specs.Answers.{lookupNumber, reported}
@@ -24,8 +24,9 @@ use Rattle.cache.specs.declared.Report.{Report}
 use Rattle.cache.specs.declared.ReportAnswer.{ReportAnswer}
 use Rattle.cache.specs.declared.ReportAnswer.the-variants.{Reported, NotReported}
 use Rattle.cache.proofs.Checks.{opened-fits}
-use Rattle.notices.specs.Notices.{reportAll, noticesCall}
+use Rattle.notices.specs.Notices.{noticesCall}
 use Rattle.notices.specs.Pages.{names, reportOnce}
+use Rattle.notices.proofs.Order.{report-once}
 use Rattle.write.specs.Write.{writeJudged, reportPages, writeBy, writeCall}
 use Rattle.history.specs.History.{Event, anything, shown}
 use Rattle.guarantee.specs.Calls.{Call, Lent, run}
@@ -155,7 +156,7 @@ module _ (p : Past) (l : Lent) (start : Follows p (l .store)) (calls : List Call
   live-dropped a w = subst (λ (k : ℕ). 1 ≤ k) (sym (dropped-is a)) (one-hits (run calls l .store) (pageOf a) w)
 
   -- a list of notices, by the pages of its addresses
-  module _ (report-once : (g : Geometry) (s : List ℕ) → Fitting g s → (list : List ℕ) → reportAll g s list ≡ reportOnce g s list) (list : List ℕ) where
+  module _ (list : List ℕ) where
     pub notices-dropped-is : reported (noticesCall (run calls l .store) list .0) .dropped ≡ hitsOver (run calls l .store) list
     notices-dropped-is =
         let y = stands p l start calls g h is in
