@@ -82,26 +82,23 @@ over-one s (a ∷ rest) c = decide (hitsIn s (pageOf a)) 0 (λ e. later (over-on
     most false n = rw n (omega arith)
 
     here : HitIn s (pageOf a) → HitOver s (a ∷ rest)
-    here w = record { address = w .address; in-pages = rw (eq-eqb (pageOf a) (pageOf (w .address)) (sym (w .in-page))); hits = w .hits }
+    here w = record { page = pageOf a; named = rw (eq-eqb (pageOf a) (pageOf a) refl); hit = w }
 
     later : HitOver s rest → HitOver s (a ∷ rest)
-    later w = record { address = w .address; in-pages = go (eqb (pageOf a) (pageOf (w .address))); hits = w .hits }
+    later w = record { page = w .page; named = go (eqb (pageOf a) (w .page)); hit = w .hit }
       where
-        go : (t : Bool) → (t || names rest (pageOf (w .address))) ≡ true
+        go : (t : Bool) → (t || names rest (w .page)) ≡ true
         go true = refl
-        go false = w .in-pages
+        go false = w .named
 
 one-over : (s list : List ℕ) → HitOver s list → 1 ≤ hitsOver s list
 unfolding hitsOver names
-one-over s [] w = absurd (false≢true (w .in-pages))
-one-over s (a ∷ rest) w = go (λ n. one-over s rest (record { address = w .address; in-pages = n; hits = w .hits })) (eqb (pageOf a) page) refl (names rest (pageOf a)) refl (w .in-pages)
+one-over s [] w = absurd (false≢true (w .named))
+one-over s (a ∷ rest) w = go (λ n. one-over s rest (record { page = w .page; named = n; hit = w .hit })) (eqb (pageOf a) (w .page)) refl (names rest (pageOf a)) refl (w .named)
   where
-    page : ℕ
-    page = pageOf (w .address)
-
-    go : (names rest page ≡ true → 1 ≤ hitsOver s rest) → (t : Bool) → eqb (pageOf a) page ≡ t → (u : Bool) → names rest (pageOf a) ≡ u → (t || names rest page) ≡ true → 1 ≤ hitsOver s (a ∷ rest)
-    go ih true e true n k = rw n (omega (arith, ih (ap (names rest) (sym (eqb-true (pageOf a) page e)) ∙ n)))
-    go ih true e false n k = rw n (omega (arith, one-hits s (pageOf a) (record { address = w .address; in-page = sym (eqb-true (pageOf a) page e); hits = w .hits })))
+    go : (names rest (w .page) ≡ true → 1 ≤ hitsOver s rest) → (t : Bool) → eqb (pageOf a) (w .page) ≡ t → (u : Bool) → names rest (pageOf a) ≡ u → (t || names rest (w .page)) ≡ true → 1 ≤ hitsOver s (a ∷ rest)
+    go ih true e true n k = rw n (omega (arith, ih (ap (names rest) (sym (eqb-true (pageOf a) (w .page) e)) ∙ n)))
+    go ih true e false n k = rw n (omega (arith, one-hits s (pageOf a) (subst (HitIn s) (sym (eqb-true (pageOf a) (w .page) e)) (w .hit))))
     go ih false e true n k = rw n (omega (arith, ih k))
     go ih false e false n k = rw n (omega (arith, ih k))
 

@@ -32,6 +32,6 @@ pub record HitIn (s : List ℕ) (p : ℕ) : Type 0 where
 
 -- and that there is one in the page of some address of a list
 pub record HitOver (s list : List ℕ) : Type 0 where
-  pub address : ℕ
-  pub in-pages : names list (pageOf address) ≡ true
-  pub hits : lookupNumber (lookupCall s address) ≡ 0
+  pub page : ℕ
+  pub named : names list page ≡ true
+  pub hit : HitIn s page
