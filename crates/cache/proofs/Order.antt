@@ -4,9 +4,9 @@
 use mathlib.Core.Path.{_≡_, refl, sym, ap, ap₂, _∙_}
 use mathlib.Core.Bool.{Bool, true, false, cond, _&&_}
 use mathlib.Core.List.{List, _++_}
-use Prim.Native.Nat.{ℕ, _+_, _-_, _*_, _/_, _%_, _^_, _<_, _≤_}
+use Prim.Native.Nat.{ℕ, _+_, _/_, _<_}
 use native.Mathlib.Omega.{arith}
-use lib.ListN.{length, take}
+use lib.ListN.{take}
 use lib.Seq.{take-take, take-at, take-set-le, length-take-le}
 use borrow.Author.Tests.{eq-eqb}
 use Rattle.bits.specs.Bytes.{part}
@@ -24,11 +24,10 @@ use Rattle.store.proofs.Places.{emptied-comm}
 use Rattle.store.proofs.View.{store-ext, opened-flushed}
 use Rattle.answer.specs.declared.Answer.the-variants.{Done}
 use Rattle.cache.specs.Answers.{nothingDone, reported}
-use Rattle.cache.specs.Calls.{watched, evicted, noticedIn, droppedIn, reportIn, summed, noticeBy, noticeCall, flushBy, flushCall}
-use Rattle.cache.specs.declared.Report.{Report}
+use Rattle.cache.specs.Calls.{watched, evicted, noticedIn, reportIn, summed, noticeBy, noticeCall, flushBy, flushCall}
 use Rattle.cache.proofs.Checks.{opened-fits}
-use Rattle.cache.proofs.Reports.{none-summed, summed-comm}
-use Rattle.cache.proofs.View.{fitting-evicted, bits-evicted, place-evicted, front-evicted, opened-noticed, fitting-noticed, report-apart, watched-apart}
+use Rattle.cache.proofs.Reports.{summed-comm}
+use Rattle.cache.proofs.View.{fitting-evicted, bits-evicted, place-evicted, front-evicted, opened-noticed, report-apart, watched-apart}
 
 -- addresses of one page are in memory together, and in the same page of it
 held-alike : (g : Geometry) → Bounded g → (x y : ℕ) → x / 4096 ≡ y / 4096 → holds g x ≡ true → holds g y ≡ true
@@ -150,70 +149,56 @@ module _ (g : Geometry) (s : List ℕ) (f : Fitting g s) (a : ℕ) where
       go true e = rw e (head-evicted (and-both (holds g a) _ e .0))
       go false e = rw e
 
+-- what holds of a store, and of no store, holds of any bytes
+pub on-any-bytes : (s : List ℕ) (P : Opened → Type 0) → ((g : Geometry) → Fitting g s → P (Sound g)) → P NotAStore → P (opened s)
+on-any-bytes s P good bad = go (opened s) refl
+  where
+    go : (o : Opened) → opened s ≡ o → P o
+    go (Sound g) e = good g (opened-fits s g e)
+    go NotAStore e = bad
+
 -- The laws of the calls.
 
--- what the header check finds stays, and with it every call's number
+-- what the header check finds stays, and with it the number of each call that comes after
 pub notice-opened : (s : List ℕ) (a : ℕ) → opened (noticeCall s a .1) ≡ opened s
-notice-opened s a = go (opened s) refl
-  where
-    go : (o : Opened) → opened s ≡ o → opened (noticeBy o s a .1) ≡ opened s
-    go (Sound g) e = opened-noticed g s (opened-fits s g e) a
-    go NotAStore e = refl
+notice-opened s a = on-any-bytes s (λ o. opened (noticeBy o s a .1) ≡ opened s) (λ g f. opened-noticed g s f a) refl
+
+-- the second of two notices, by what the check found before the first
+second : (s : List ℕ) (a b : ℕ) → noticeCall (noticeCall s a .1) b ≡ noticeBy (opened s) (noticeBy (opened s) s a .1) b
+second s a b = ap (λ (o : Opened). noticeBy o (noticeCall s a .1) b) (notice-opened s a)
 
 module _ (s : List ℕ) (a b : ℕ) where
-  -- the second of two calls, by what the header check found before the first
-  next-call : noticeCall (noticeCall s a .1) b ≡ noticeBy (opened s) (noticeBy (opened s) s a .1) b
-  next-call = ap (λ (o : Opened). noticeBy o (noticeCall s a .1) b) (notice-opened s a)
-
-module _ (s : List ℕ) (a b : ℕ) where
-  -- either order: the same store
+  -- in either order the same store, and the same sums
   pub notices-swap : noticeCall (noticeCall s a .1) b .1 ≡ noticeCall (noticeCall s b .1) a .1
-  notices-swap = ap (λ r. r .1) (next-call s a b) ∙ go (opened s) refl ∙ sym (ap (λ r. r .1) (next-call s b a))
-    where
-      go : (o : Opened) → opened s ≡ o → noticeBy o (noticeBy o s a .1) b .1 ≡ noticeBy o (noticeBy o s b .1) a .1
-      go (Sound g) e = noticed-comm g s (opened-fits s g e) a b
-      go NotAStore e = refl
+  notices-swap =
+      rw (second s a b, second s b a)
+      (on-any-bytes s (λ o. noticeBy o (noticeBy o s a .1) b .1 ≡ noticeBy o (noticeBy o s b .1) a .1) (λ g f. noticed-comm g s f a b) refl)
 
-  -- and the same sums
   pub notices-swap-sum : summed (reported (noticeCall s a .0)) (reported (noticeCall (noticeCall s a .1) b .0)) ≡ summed (reported (noticeCall s b .0)) (reported (noticeCall (noticeCall s b .1) a .0))
   notices-swap-sum =
-      ap (λ r. summed (reported (noticeCall s a .0)) (reported (r .0))) (next-call s a b)
-      ∙ go (opened s) refl
-      ∙ sym (ap (λ r. summed (reported (noticeCall s b .0)) (reported (r .0))) (next-call s b a))
-    where
-      go : (o : Opened) → opened s ≡ o → summed (reported (noticeBy o s a .0)) (reported (noticeBy o (noticeBy o s a .1) b .0)) ≡ summed (reported (noticeBy o s b .0)) (reported (noticeBy o (noticeBy o s b .1) a .0))
-      go (Sound g) e = report-comm g s (opened-fits s g e) a b
-      go NotAStore e = refl
+      rw (second s a b, second s b a)
+      (on-any-bytes s (λ o. summed (reported (noticeBy o s a .0)) (reported (noticeBy o (noticeBy o s a .1) b .0)) ≡ summed (reported (noticeBy o s b .0)) (reported (noticeBy o (noticeBy o s b .1) a .0)))
+      (λ g f. report-comm g s f a b) refl)
 
-  -- a second notice in the same page changes nothing and counts 0 and 0
-  pub notice-again : a / 4096 ≡ b / 4096 → noticeCall (noticeCall s a .1) b .1 ≡ noticeCall s a .1
-  notice-again same = ap (λ r. r .1) (next-call s a b) ∙ go (opened s) refl
-    where
-      go : (o : Opened) → opened s ≡ o → noticeBy o (noticeBy o s a .1) b .1 ≡ noticeBy o s a .1
-      go (Sound g) e = noticed-again g s (opened-fits s g e) a b same
-      go NotAStore e = refl
+  -- a second notice in the same page changes nothing, and counts 0 and 0
+  module _ (same : a / 4096 ≡ b / 4096) where
+    pub notice-again : noticeCall (noticeCall s a .1) b .1 ≡ noticeCall s a .1
+    notice-again = rw (second s a b) (on-any-bytes s (λ o. noticeBy o (noticeBy o s a .1) b .1 ≡ noticeBy o s a .1) (λ g f. noticed-again g s f a b same) refl)
 
-  pub notice-again-none : a / 4096 ≡ b / 4096 → reported (noticeCall (noticeCall s a .1) b .0) ≡ nothingDone
-  notice-again-none same = ap (λ r. reported (r .0)) (next-call s a b) ∙ go (opened s) refl
-    where
-      go : (o : Opened) → opened s ≡ o → reported (noticeBy o (noticeBy o s a .1) b .0) ≡ nothingDone
-      go (Sound g) e = report-again g s (opened-fits s g e) a b same
-      go NotAStore e = refl
+    pub notice-again-none : reported (noticeCall (noticeCall s a .1) b .0) ≡ nothingDone
+    notice-again-none = rw (second s a b) (on-any-bytes s (λ o. reported (noticeBy o (noticeBy o s a .1) b .0) ≡ nothingDone) (λ g f. report-again g s f a b same) refl)
 
 -- a flush after a notice is the flush alone, and two flushes are one: the answer and every byte
 pub flush-after-notice : (s : List ℕ) (a : ℕ) → flushCall (noticeCall s a .1) ≡ flushCall s
-flush-after-notice s a = ap (λ (o : Opened). flushBy o (noticeCall s a .1)) (notice-opened s a) ∙ go (opened s) refl
-  where
-    go : (o : Opened) → opened s ≡ o → flushBy o (noticeBy o s a .1) ≡ flushBy o s
-    go (Sound g) e = ap (λ (h : List ℕ). (Done, h ++ blank g)) (head-noticed g s (opened-fits s g e) a)
-    go NotAStore e = refl
+flush-after-notice s a =
+    rw (notice-opened s a)
+    (on-any-bytes s (λ o. flushBy o (noticeBy o s a .1) ≡ flushBy o s) (λ g f. ap (λ (head : List ℕ). (Done, head ++ blank g)) (head-noticed g s f a)) refl)
+
+pub flush-opened : (s : List ℕ) → opened (flushCall s .1) ≡ opened s
+flush-opened s = on-any-bytes s (λ o. opened (flushBy o s .1) ≡ opened s) (λ g f. opened-flushed g s f) refl
 
 pub flush-twice : (s : List ℕ) → flushCall (flushCall s .1) ≡ flushCall s
-flush-twice s = go (opened s) refl
-  where
-    go : (o : Opened) → opened s ≡ o → flushCall (flushBy o s .1) ≡ flushBy o s
-    go (Sound g) e =
-        let f = opened-fits s g e in
-        ap (λ (o : Opened). flushBy o (take 32 s ++ blank g)) (opened-flushed g s f ∙ e)
-        ∙ ap (λ (h : List ℕ). (Done, h ++ blank g)) (take-at (take 32 s) (blank g) 32 (length-take-le 32 s (let w = front-fits g s f in omega arith)))
-    go NotAStore e = rw e
+flush-twice s =
+    rw (flush-opened s)
+    (on-any-bytes s (λ o. flushBy o (flushBy o s .1) ≡ flushBy o s)
+    (λ g f. ap (λ (head : List ℕ). (Done, head ++ blank g)) (take-at (take 32 s) (blank g) 32 (length-take-le 32 s (let w = front-fits g s f in omega arith)))) refl)

@@ -5,21 +5,18 @@ use mathlib.Core.Bool.{Bool, true, false, cond, _||_}
 use mathlib.Core.List.{List, [], _∷_, _++_, append-nil, List·Mem, Subset, Perm, Perm·subset, Perm·symm, not-mem-nil, mem-of-ne-of-mem, mem-cons-self, mem-cons-of-mem}
 use Prim.Native.Nat.{ℕ, _/_}
 use lib.Dec.{eqb}
-use borrow.Author.Tests.{eqb-true, eqb-false, eq-eqb, ne-eqb}
+use borrow.Author.Tests.{eqb-true, eqb-false, eq-eqb}
 use Rattle.bits.proofs.Every.{decide}
 use Rattle.bits.proofs.Tests.{not-true, true-false}
-use Rattle.store.specs.Layout.{opened, Fitting}
+use Rattle.store.specs.Layout.{Fitting}
 use Rattle.store.specs.declared.Geometry.{Geometry}
-use Rattle.store.specs.declared.Opened.{Opened}
-use Rattle.store.specs.declared.Opened.the-variants.{Sound, NotAStore}
-use Rattle.cache.specs.Answers.{nothingDone, reported}
+use Rattle.cache.specs.Answers.{reportNumber, nothingDone, reported}
 use Rattle.cache.specs.Calls.{noticedIn, reportIn, summed, noticeBy, noticeCall, flushCall}
 use Rattle.cache.specs.declared.Report.{Report}
 use Rattle.cache.specs.declared.ReportAnswer.the-variants.{Reported}
-use Rattle.cache.proofs.Checks.{opened-fits}
-use Rattle.cache.proofs.Reports.{summed-none, none-summed, summed-assoc}
+use Rattle.cache.proofs.Reports.{none-summed, summed-assoc}
 use Rattle.cache.proofs.View.{fitting-noticed, report-apart}
-use Rattle.cache.proofs.Order.{noticed-alike, report-alike, noticed-again, report-again, noticed-comm, report-comm, notice-opened, flush-after-notice}
+use Rattle.cache.proofs.Order.{noticed-alike, report-alike, noticed-again, report-again, noticed-comm, report-comm, on-any-bytes, notice-opened, flush-after-notice}
 use Rattle.notices.specs.Notices.{noticedAll, reportAll, noticesBy, noticesCall}
 use Rattle.notices.specs.Pages.{names, reportOnce}
 
@@ -154,57 +151,40 @@ module _ (g : Geometry) where
 
 -- The laws of the call.
 module _ (s : List ℕ) where
-  -- an empty list
+  -- an empty list changes nothing, and counts 0 and 0
   pub none-store : noticesCall s [] .1 ≡ s
   unfolding noticedAll
-  none-store = go (opened s)
-    where
-      go : (o : Opened) → noticesBy o s [] .1 ≡ s
-      go (Sound g) = refl
-      go NotAStore = refl
+  none-store = on-any-bytes s (λ o. noticesBy o s [] .1 ≡ s) (λ g f. refl) refl
 
   pub none-report : reported (noticesCall s [] .0) ≡ nothingDone
   unfolding reportAll
-  none-report = go (opened s)
-    where
-      go : (o : Opened) → reported (noticesBy o s [] .0) ≡ nothingDone
-      go (Sound g) = refl
-      go NotAStore = refl
+  none-report = on-any-bytes s (λ o. reported (noticesBy o s [] .0) ≡ nothingDone) (λ g f. refl) refl
+
+  -- any list answers the number that one notice does, and a list of one is that notice
+  pub same-number : (list : List ℕ) (a : ℕ) → reportNumber (noticesCall s list .0) ≡ reportNumber (noticeCall s a .0)
+  same-number list a = on-any-bytes s (λ o. reportNumber (noticesBy o s list .0) ≡ reportNumber (noticeBy o s a .0)) (λ g f. refl) refl
+
+  pub one-notice : (a : ℕ) → noticesCall s (a ∷ []) ≡ noticeCall s a
+  unfolding noticedAll reportAll
+  one-notice a = on-any-bytes s (λ o. noticesBy o s (a ∷ []) ≡ noticeBy o s a) (λ g f. ap (λ (r : Report). (Reported r, noticedIn g s a)) (none-summed (reportIn g s a))) refl
 
   -- one notice, and then the others
   module _ (a : ℕ) (rest : List ℕ) where
     pub next-store : noticesCall s (a ∷ rest) .1 ≡ noticesCall (noticeCall s a .1) rest .1
     unfolding noticedAll
-    next-store = go (opened s) ∙ sym (ap (λ (o : Opened). noticesBy o (noticeCall s a .1) rest .1) (notice-opened s a))
-      where
-        go : (o : Opened) → noticesBy o s (a ∷ rest) .1 ≡ noticesBy o (noticeBy o s a .1) rest .1
-        go (Sound g) = refl
-        go NotAStore = refl
+    next-store = rw (notice-opened s a) (on-any-bytes s (λ o. noticesBy o s (a ∷ rest) .1 ≡ noticesBy o (noticeBy o s a .1) rest .1) (λ g f. refl) refl)
 
     pub next-report : reported (noticesCall s (a ∷ rest) .0) ≡ summed (reported (noticeCall s a .0)) (reported (noticesCall (noticeCall s a .1) rest .0))
     unfolding reportAll
-    next-report = go (opened s) ∙ sym (ap (λ (o : Opened). summed (reported (noticeCall s a .0)) (reported (noticesBy o (noticeCall s a .1) rest .0))) (notice-opened s a))
-      where
-        go : (o : Opened) → reported (noticesBy o s (a ∷ rest) .0) ≡ summed (reported (noticeBy o s a .0)) (reported (noticesBy o (noticeBy o s a .1) rest .0))
-        go (Sound g) = refl
-        go NotAStore = refl
-
-  -- a list of one is the notice
-  pub one-notice : (a : ℕ) → noticesCall s (a ∷ []) ≡ noticeCall s a
-  unfolding noticedAll reportAll
-  one-notice a = go (opened s)
-    where
-      go : (o : Opened) → noticesBy o s (a ∷ []) ≡ noticeBy o s a
-      go (Sound g) = ap (λ (r : Report). (Reported r, noticedIn g s a)) (none-summed (reportIn g s a))
-      go NotAStore = refl
+    next-report =
+        rw (notice-opened s a)
+        (on-any-bytes s (λ o. reported (noticesBy o s (a ∷ rest) .0) ≡ summed (reported (noticeBy o s a .0)) (reported (noticesBy o (noticeBy o s a .1) rest .0))) (λ g f. refl) refl)
 
   -- lists that name the same pages: the same number, the same sums, the same bytes
   pub same-pages : (one two : List ℕ) → ((page : ℕ) → names one page ≡ names two page) → noticesCall s one ≡ noticesCall s two
-  same-pages one two same = go (opened s) refl
-    where
-      go : (o : Opened) → opened s ≡ o → noticesBy o s one ≡ noticesBy o s two
-      go (Sound g) e = ap (λ (o : Report × List ℕ). (Reported (o .0), o .1)) (outcome-same g s (opened-fits s g e) one two same)
-      go NotAStore e = refl
+  same-pages one two same =
+      on-any-bytes s (λ o. noticesBy o s one ≡ noticesBy o s two)
+      (λ g f. ap (λ (o : Report × List ℕ). (Reported (o .0), o .1)) (outcome-same g s f one two same)) refl
 
   -- so do lists with the same members, in any order and number; and a list in another order
   pub same-members : (one two : List ℕ) → Subset one two → Subset two one → noticesCall s one ≡ noticesCall s two
