@@ -57,7 +57,7 @@ run [] l = l
 run (make reading e base pages ∷ calls) l = storing (run calls l) (makeCall reading e base pages (run calls l .store) .1)
 run (uses c ∷ calls) l = done c (run calls l) .1
 
--- a notice for each address of a list, as calls of their own
+-- a notice for each address of a list, as calls of their own, the newest first
 unfoldable pub eachNotice : List ℕ → List Call
 eachNotice [] = []
 eachNotice (a ∷ rest) = eachNotice rest ++ uses (notice a) ∷ []
