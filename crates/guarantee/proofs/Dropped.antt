@@ -12,6 +12,7 @@ use lib.ListN.{length}
 use borrow.Author.Tests.{eqb-true, eq-eqb}
 use Rattle.bits.proofs.Count.{count-same, count-some, some-count}
 use Rattle.bits.proofs.Every.{decide}
+use Rattle.bits.proofs.Tests.{or-right}
 use Rattle.answer.specs.declared.Refusal.{Refusal}
 use Rattle.store.specs.Layout.{slotOf}
 use Rattle.store.specs.declared.Geometry.{Geometry}
@@ -85,11 +86,7 @@ over-one s (a ∷ rest) c = decide (hitsIn s (pageOf a)) 0 (λ e. later (over-on
     here w = record { page = pageOf a; named = rw (eq-eqb (pageOf a) (pageOf a) refl); hit = w }
 
     later : HitOver s rest → HitOver s (a ∷ rest)
-    later w = record { page = w .page; named = go (eqb (pageOf a) (w .page)); hit = w .hit }
-      where
-        go : (t : Bool) → (t || names rest (w .page)) ≡ true
-        go true = refl
-        go false = w .named
+    later w = record { page = w .page; named = or-right (eqb (pageOf a) (w .page)) (w .named); hit = w .hit }
 
 one-over : (s list : List ℕ) → HitOver s list → 1 ≤ hitsOver s list
 unfolding hitsOver names

@@ -1,12 +1,13 @@
 -- A cache keeps a place for each slot and a bit for each page; what its places hold after a history answers each lookup as the history says.
 -- Assumes nothing.
 use mathlib.Core.Path.{_≡_, refl, sym, ap, subst, _∙_}
-use mathlib.Core.Bool.{Bool, true, false, cond, _&&_, _||_, not, true≢false}
+use mathlib.Core.Bool.{Bool, true, false, cond, _&&_, not, true≢false}
 use mathlib.Core.List.{List, [], _∷_}
 use mathlib.Core.Option.{Option, none, some}
 use Prim.Native.Nat.{ℕ}
 use borrow.Author.Tests.{eqb-true, eqb-false, eq-eqb, ne-eqb}
 use lib.Dec.{eqb}
+use Rattle.bits.proofs.Tests.{or-right}
 use Rattle.history.specs.History.{Event, inserted, touched, flushed, Every, none-left, and-then, shown, marked}
 use Rattle.history.proofs.Sentences.{no-some}
 
@@ -41,14 +42,10 @@ module _ (slot page : ℕ → ℕ) where
   in-place [] i = tt
   in-place (inserted b q ∷ h) i = go (eqb (slot b) i) refl (places h i) (in-place h i)
     where
-      or-true : (t : Bool) {u : Bool} → u ≡ true → (t || u) ≡ true
-      or-true true e = refl
-      or-true false e = e
-
       go : (t : Bool) → eqb (slot b) i ≡ t → (k : Place) → InPlace h i k → InPlace (inserted b q ∷ h) i (cond t (full b q) k)
       go true et k s = (eqb-true (slot b) i et, rw (eq-eqb (page b) (page b) refl))
       go false et empty s = tt
-      go false et (full a r) s = (s .0, or-true (eqb (page b) (page a)) (s .1))
+      go false et (full a r) s = (s .0, or-right (eqb (page b) (page a)) (s .1))
   in-place (touched p ∷ h) i = go (marked slot page h p) refl (places h i) (in-place h i)
     where
       other : (a : ℕ) → (p ≡ page a → ⊥) → marked slot page h (page a) ≡ true → (not (eqb p (page a)) && marked slot page h (page a)) ≡ true

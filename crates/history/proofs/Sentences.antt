@@ -8,6 +8,7 @@ use Prim.Native.Nat.{ℕ}
 use native.Mathlib.Omega.{arith}
 use borrow.Author.Tests.{eqb-true, eqb-false, eq-eqb, ne-eqb}
 use lib.Dec.{eqb}
+use Rattle.bits.proofs.Tests.{or-right}
 use Rattle.history.specs.History.{Event, inserted, touched, flushed, Every, none-left, and-then, shown, marked, Harmless, Lives, Quiet, Marked}
 
 pub no-some : {A : Type 0} (r : List ℕ) → none ≡ some r → A
@@ -68,14 +69,10 @@ module _ (slot page : ℕ → ℕ) where
       go ih false et k = again (touched q) h p (eqb-false q p et) (ih k)
   marked-is (flushed ∷ h) p e = absurd (false≢true e)
 
-  or-true : (t : Bool) → (t || true) ≡ true
-  or-true true = refl
-  or-true false = refl
-
   stays : (since before : List Event) (a p : ℕ) (r : List ℕ) → page a ≡ p → Every (Quiet slot page p) since → marked slot page (since ++ inserted a r ∷ before) p ≡ true
   unfolding marked
   stays [] before a p r e none-left = rw (eq-eqb (page a) p e)
-  stays (inserted b q ∷ since) before a p r e (and-then s l) = rw (stays since before a p r e l) (or-true (eqb (page b) p))
+  stays (inserted b q ∷ since) before a p r e (and-then s l) = or-right (eqb (page b) p) (stays since before a p r e l)
   stays (touched q ∷ since) before a p r e (and-then s l) = rw (ne-eqb q p s) (stays since before a p r e l)
   stays (flushed ∷ since) before a p r e (and-then s l) = absurd s
 

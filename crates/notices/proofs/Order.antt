@@ -7,7 +7,7 @@ use Prim.Native.Nat.{ℕ, _/_}
 use lib.Dec.{eqb}
 use borrow.Author.Tests.{eqb-true, eqb-false, eq-eqb}
 use Rattle.bits.proofs.Every.{decide}
-use Rattle.bits.proofs.Tests.{not-true, true-false}
+use Rattle.bits.proofs.Tests.{or-right, not-true, true-false}
 use Rattle.store.specs.Layout.{Fitting}
 use Rattle.store.specs.declared.Geometry.{Geometry}
 use Rattle.cache.specs.Answers.{reportNumber, nothingDone, reported}
@@ -19,10 +19,6 @@ use Rattle.cache.proofs.View.{fitting-noticed, report-apart}
 use Rattle.cache.proofs.Order.{noticed-alike, report-alike, noticed-again, report-again, noticed-comm, report-comm, on-any-bytes, notice-opened, flush-after-notice}
 use Rattle.notices.specs.Notices.{noticedAll, reportAll, noticesBy, noticesCall}
 use Rattle.notices.specs.Pages.{names, reportOnce}
-
-or-right : (t : Bool) {u : Bool} → u ≡ true → (t || u) ≡ true
-or-right true h = refl
-or-right false h = h
 
 -- an address that a list has lies in a page that it names, and where it names a page, it has an address there
 in-names : (list : List ℕ) (a : ℕ) → List·Mem a list → names list (a / 4096) ≡ true
