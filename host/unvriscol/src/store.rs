@@ -11,7 +11,7 @@ pub struct Store<B = Box<[u8]>> {
     bytes: B,
 }
 
-/// What a notice or a guest write did.
+/// What a notice, a list of them or a guest write did.
 #[derive(Clone, Copy, Debug, Default, PartialEq, Eq)]
 pub struct Report {
     /// Slots that were looked at: all of them for each page that may have had blocks.
@@ -179,6 +179,37 @@ impl<B: AsRef<[u8]> + AsMut<[u8]>> Store<B> {
         let bytes = self.bytes.as_mut();
         // SAFETY: as in `make`.
         unsafe { door::uv_notice(bytes.as_mut_ptr(), bytes.len(), address) }
+            .checked()
+            .expect(KEPT)
+    }
+
+    /// Drops the blocks of the addresses' pages, as [`Store::notice`] of one address after the other, and reports the sums; the header is checked once
+    /// for all. Order and repeats change nothing, and an empty list does nothing.
+    ///
+    /// ```
+    /// use unvriscol::{Error, Reading, Report, Store};
+    ///
+    /// let memory = [0x01, 0x00].repeat(4096); // two pages of c.nop
+    /// let mut blocks = Store::new(Reading::Rust, 2, 0, 2)?; // 4 slots
+    /// for address in [0, 4098] {
+    ///     blocks.insert(address, blocks.form(&memory, address)?);
+    /// }
+    /// let mut singly = blocks.clone();
+    ///
+    /// // Both pages, one of them twice, and an address outside memory.
+    /// let report = blocks.notice_all(&[8191, 0, 8192, 4096]);
+    /// assert_eq!(report, Report { examined: 8, dropped: 2 });
+    ///
+    /// assert_eq!(report, singly.notice(0) + singly.notice(4096));
+    /// assert_eq!(blocks.as_bytes(), singly.as_bytes());
+    /// # Ok::<(), Error>(())
+    /// ```
+    #[inline]
+    pub fn notice_all(&mut self, addresses: &[u64]) -> Report {
+        let bytes = self.bytes.as_mut();
+        let (at, len) = (bytes.as_mut_ptr(), bytes.len());
+        // SAFETY: as in `make`.
+        unsafe { door::uv_notices(at, len, addresses.as_ptr(), addresses.len()) }
             .checked()
             .expect(KEPT)
     }
