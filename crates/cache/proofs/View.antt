@@ -115,6 +115,22 @@ module _ (g : Geometry) (s : List ℕ) (f : Fitting g s) (a : ℕ) (h : holds g 
         place-put g (bumped marked) moved-fits (slotOf g a) (placeFor g rec) (slot-lt g a) l i
         ∙ ap (cond (eqb (slotOf g a) i) (placeFor g rec)) (place-bumped g marked marked-fits i ∙ place-with g s f (memoryPage g a) true in-memory i)
 
+-- a notice leaves a store of the same geometry
+module _ (g : Geometry) (s : List ℕ) (f : Fitting g s) (a : ℕ) where
+  pub fitting-noticed : Fitting g (noticedIn g s a)
+  fitting-noticed = go (watched g s a) refl
+    where
+      go : (t : Bool) → watched g s a ≡ t → Fitting g (noticedIn g s a)
+      go true e = rw e (fitting-evicted g s f a (and-both (holds g a) _ e .0))
+      go false e = rw e f
+
+  pub opened-noticed : opened (noticedIn g s a) ≡ opened s
+  opened-noticed = go (watched g s a) refl
+    where
+      go : (t : Bool) → watched g s a ≡ t → opened (noticedIn g s a) ≡ opened s
+      go true e = rw e (opened-evicted g s f a (and-both (holds g a) _ e .0))
+      go false e = rw e
+
 -- the report of a notice is that of the store before a notice in another page: a write's sum may be taken before it or on the way
 pub report-apart : (g : Geometry) (s : List ℕ) → Fitting g s → (a b : ℕ) → (a / 4096 ≡ b / 4096 → ⊥) → reportIn g (noticedIn g s a) b ≡ reportIn g s b
 report-apart g s f a b apart = go (watched g s a) refl (holds g b) refl

@@ -1,1 +1,2 @@
--- That the order and the number of notices do not matter, and that their sums are small.
+-- What a list of notices does, one more at a time, and that its sums are small.
+pub mod Sums
