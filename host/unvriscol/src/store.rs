@@ -340,6 +340,30 @@ mod tests {
     }
 
     #[test]
+    fn a_list_is_its_notices() {
+        let memory = memory();
+        let mut store = BlockCache::new(2, BASE, 2).unwrap();
+        for at in [BASE, BASE + 4100] {
+            step(&mut store, &mut (&memory[..], BASE), at);
+        }
+        let lists: [&[u64]; 5] = [
+            &[],
+            &[BASE],
+            &[BASE + 4096],
+            &[BASE + 8192, BASE + 1, BASE],
+            &[BASE + 8191, 0, BASE, u64::MAX, BASE + 4096, BASE + 8191],
+        ];
+        for list in lists {
+            let (mut listed, mut singly) = (store.clone(), store.clone());
+            let report = listed.notice_all(list);
+            let each = list.iter().map(|&address| singly.notice(address));
+            let sum = each.fold(Report::default(), std::ops::Add::add);
+            assert_eq!(report, sum, "{list:x?}");
+            assert_eq!(listed.as_bytes(), singly.as_bytes(), "{list:x?}");
+        }
+    }
+
+    #[test]
     fn lent_bytes() {
         let mut bytes = vec![0xA5; 4200];
         let mut store = Store::make(&mut bytes[..], Reading::Manual, 2, BASE, 2).unwrap();
