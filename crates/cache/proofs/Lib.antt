@@ -2,3 +2,4 @@
 pub mod Checks
 pub mod View
 pub mod Reports
+pub mod Order

@@ -8,14 +8,15 @@ use native.Mathlib.Omega.{arith}
 use lib.Dec.{eqb}
 use lib.ListN.{length}
 use borrow.Author.Tests.{ne-eqb}
+use Rattle.bits.specs.Bytes.{part}
 use Rattle.bits.proofs.Count.{count-same}
 use Rattle.bits.proofs.Tests.{and-both}
-use Rattle.store.specs.Layout.{opened, Fitting, holds, memoryPage, slotOf, generationOf, bumped}
+use Rattle.store.specs.Layout.{front, opened, Fitting, holds, memoryPage, slotOf, generationOf, bumped}
 use Rattle.store.specs.Places.{placeIn, pageBit, withBit, placeFor, inPage, emptied}
 use Rattle.store.specs.declared.Geometry.{Geometry}
-use Rattle.store.proofs.Known.{holds-are, page-lt, slot-lt}
+use Rattle.store.proofs.Known.{holds-are, page-lt, slot-lt, bit-fits}
 use Rattle.store.proofs.Places.{emptied-apart, length-emptied}
-use Rattle.store.proofs.View.{length-with, opened-with, generation-with, bits-with, place-with, length-bumped, opened-bumped, generation-bumped, bits-bumped, place-bumped, length-put, opened-put, generation-put, bits-put, place-put, fitting-each, opened-each, generation-each, bits-each, place-each}
+use Rattle.store.proofs.View.{length-with, opened-with, generation-with, bits-with, place-with, length-bumped, opened-bumped, generation-bumped, bits-bumped, place-bumped, length-put, opened-put, generation-put, bits-put, place-put, fitting-each, opened-each, generation-each, bits-each, front-each, place-each, front-with}
 use Rattle.cache.specs.Calls.{insertedIn, watched, evicted, noticedIn, droppedIn, reportIn}
 
 -- emptying keeps a place's length
@@ -57,6 +58,12 @@ module _ (g : Geometry) (s : List ℕ) (f : Fitting g s) (a : ℕ) (h : holds g 
   unfolding evicted cleared here
   place-evicted i b = place-each g cleared cleared-fits (emptied here) (keeps g s f here) i b ∙ ap (emptied here) (place-with g s f (memoryPage g a) false in-memory i)
 
+  pub front-evicted : part (evicted g s a) 0 (front (g .pages)) ≡ withBit (part s 0 (front (g .pages))) (memoryPage g a) false
+  unfolding evicted cleared here
+  front-evicted =
+      front-each g cleared cleared-fits (emptied here) (keeps g s f here)
+      ∙ front-with s (memoryPage g a) (front (g .pages)) false (bit-fits g s (memoryPage g a) f in-memory)
+
   -- its bit is no part of a place
   pub dropped-cleared : droppedIn g (withBit s (memoryPage g a) false) a ≡ droppedIn g s a
   dropped-cleared = count-same (2 ^ g .e) _ _ (λ i b. ap (inPage (a / 4096)) (place-with g s f (memoryPage g a) false in-memory i))
@@ -76,6 +83,9 @@ module _ (g : Geometry) (s : List ℕ) (f : Fitting g s) (a : ℕ) (h : holds g 
 
     pub evicted-apart : reportIn g (evicted g s a) b ≡ reportIn g s b
     evicted-apart = rw (inside, bit-apart, dropped-apart)
+
+    pub watched-evicted : watched g (evicted g s a) b ≡ watched g s b
+    watched-evicted = rw (inside, bit-apart)
 
   -- the page's bit is on, the generation one up, and the slot's place holds the record
   module _ (rec : List ℕ) (l : length (placeFor g rec) ≡ g .stride) where
@@ -131,11 +141,20 @@ module _ (g : Geometry) (s : List ℕ) (f : Fitting g s) (a : ℕ) where
       go true e = rw e (opened-evicted g s f a (and-both (holds g a) _ e .0))
       go false e = rw e
 
--- the report of a notice is that of the store before a notice in another page: a write's sum may be taken before it or on the way
-pub report-apart : (g : Geometry) (s : List ℕ) → Fitting g s → (a b : ℕ) → (a / 4096 ≡ b / 4096 → ⊥) → reportIn g (noticedIn g s a) b ≡ reportIn g s b
-report-apart g s f a b apart = go (watched g s a) refl (holds g b) refl
-  where
-    go : (t : Bool) → watched g s a ≡ t → (u : Bool) → holds g b ≡ u → reportIn g (noticedIn g s a) b ≡ reportIn g s b
-    go true e true i = rw e (evicted-apart g s f a (and-both (holds g a) _ e .0) b apart i)
-    go true e false i = rw i
-    go false e u i = rw e
+-- a notice in another page finds what it would find before: a write's sum may be taken before it or on the way
+module _ (g : Geometry) (s : List ℕ) (f : Fitting g s) (a b : ℕ) (apart : a / 4096 ≡ b / 4096 → ⊥) where
+  pub report-apart : reportIn g (noticedIn g s a) b ≡ reportIn g s b
+  report-apart = go (watched g s a) refl (holds g b) refl
+    where
+      go : (t : Bool) → watched g s a ≡ t → (u : Bool) → holds g b ≡ u → reportIn g (noticedIn g s a) b ≡ reportIn g s b
+      go true e true i = rw e (evicted-apart g s f a (and-both (holds g a) _ e .0) b apart i)
+      go true e false i = rw i
+      go false e u i = rw e
+
+  pub watched-apart : watched g (noticedIn g s a) b ≡ watched g s b
+  watched-apart = go (watched g s a) refl (holds g b) refl
+    where
+      go : (t : Bool) → watched g s a ≡ t → (u : Bool) → holds g b ≡ u → watched g (noticedIn g s a) b ≡ watched g s b
+      go true e true i = rw e (watched-evicted g s f a (and-both (holds g a) _ e .0) b apart i)
+      go true e false i = rw i
+      go false e u i = rw e

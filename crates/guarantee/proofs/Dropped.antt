@@ -1,8 +1,8 @@
--- For an operator: a notice reports as dropped the addresses of its page that a lookup hit just before, and a guest write those of its pages.
+-- For an operator: a notice reports as dropped the addresses of its page that a lookup hit just before, a list of notices and a guest write those of their pages.
 -- Assumes nothing.
 use mathlib.Core.Path.{_≡_, refl, sym, ap, ap₂, subst, _∙_}
-use mathlib.Core.Bool.{Bool, true, false, cond}
-use mathlib.Core.List.{List}
+use mathlib.Core.Bool.{Bool, true, false, cond, _||_, false≢true}
+use mathlib.Core.List.{List, [], _∷_}
 use mathlib.Core.Logic.{_⊎_, inl, inr}
 use mathlib.Core.Option.{Option, none, some}
 use Prim.Native.Nat.{ℕ, _+_, _-_, _≤_}
@@ -23,13 +23,17 @@ use Rattle.cache.specs.declared.Judged.the-variants.{Accepted, Rejected}
 use Rattle.cache.specs.declared.Report.{Report}
 use Rattle.cache.specs.declared.ReportAnswer.{ReportAnswer}
 use Rattle.cache.specs.declared.ReportAnswer.the-variants.{Reported, NotReported}
+use Rattle.cache.proofs.Checks.{opened-fits}
+use Rattle.notices.specs.Notices.{noticesCall}
+use Rattle.notices.specs.Pages.{names, reportOnce}
+use Rattle.notices.proofs.Order.{report-once}
 use Rattle.write.specs.Write.{writeJudged, reportPages, writeBy, writeCall}
 use Rattle.history.specs.History.{Event, anything, shown}
 use Rattle.guarantee.specs.Calls.{Call, Lent, run}
 use Rattle.guarantee.specs.Past.{Past, since, pageOf, pastOf}
 use Rattle.guarantee.specs.Stands.{Stands, Follows}
 use Rattle.guarantee.specs.Answers.{lookupAnswered, live}
-use Rattle.guarantee.specs.Hits.{hitsIn, hitsAcross, HitIn}
+use Rattle.guarantee.specs.Hits.{hitsIn, hitsAcross, hitsOver, HitIn, HitOver}
 use Rattle.guarantee.proofs.Simulation.{firstOf, in-page, notice-reports}
 use Rattle.guarantee.proofs.Lookup.{lookup-is}
 use Rattle.guarantee.proofs.Run.{write-own}
@@ -67,6 +71,37 @@ one-across s a b w = go (eqb (pageOf a) (pageOf b)) refl w
     go false e (inl v) = omega (arith, one-hits s (pageOf a) v)
     go false e (inr v) = omega (arith, one-hits s (pageOf b) v)
 
+-- and the pages of a list
+over-one : (s list : List ℕ) → 1 ≤ hitsOver s list → HitOver s list
+unfolding hitsOver names
+over-one s [] c = absurd (omega arith)
+over-one s (a ∷ rest) c = decide (hitsIn s (pageOf a)) 0 (λ e. later (over-one s rest (omega (arith, most (names rest (pageOf a)) refl)))) (λ d. here (hits-one s (pageOf a) (omega arith)))
+  where
+    most : (t : Bool) → names rest (pageOf a) ≡ t → hitsOver s (a ∷ rest) ≤ hitsIn s (pageOf a) + hitsOver s rest
+    most true n = rw n (omega arith)
+    most false n = rw n (omega arith)
+
+    here : HitIn s (pageOf a) → HitOver s (a ∷ rest)
+    here w = record { page = pageOf a; named = rw (eq-eqb (pageOf a) (pageOf a) refl); hit = w }
+
+    later : HitOver s rest → HitOver s (a ∷ rest)
+    later w = record { page = w .page; named = go (eqb (pageOf a) (w .page)); hit = w .hit }
+      where
+        go : (t : Bool) → (t || names rest (w .page)) ≡ true
+        go true = refl
+        go false = w .named
+
+one-over : (s list : List ℕ) → HitOver s list → 1 ≤ hitsOver s list
+unfolding hitsOver names
+one-over s [] w = absurd (false≢true (w .named))
+one-over s (a ∷ rest) w = go (λ n. one-over s rest (record { page = w .page; named = n; hit = w .hit })) (eqb (pageOf a) (w .page)) refl (names rest (pageOf a)) refl (w .named)
+  where
+    go : (names rest (w .page) ≡ true → 1 ≤ hitsOver s rest) → (t : Bool) → eqb (pageOf a) (w .page) ≡ t → (u : Bool) → names rest (pageOf a) ≡ u → (t || names rest (w .page)) ≡ true → 1 ≤ hitsOver s (a ∷ rest)
+    go ih true e true n k = rw n (omega (arith, ih (ap (names rest) (sym (eqb-true (pageOf a) (w .page) e)) ∙ n)))
+    go ih true e false n k = rw n (omega (arith, one-hits s (pageOf a) (subst (HitIn s) (sym (eqb-true (pageOf a) (w .page) e)) (w .hit))))
+    go ih false e true n k = rw n (omega (arith, ih k))
+    go ih false e false n k = rw n (omega (arith, ih k))
+
 -- in a store that stands for a past
 module _ (g : Geometry) (h : List Event) (s : List ℕ) (y : Stands g h s) where
   -- what the past shows, a lookup hits
@@ -86,6 +121,15 @@ module _ (g : Geometry) (h : List Event) (s : List ℕ) (y : Stands g h s) where
       go : (t : Bool) → cond t (reportIn g s a) (summed (reportIn g s a) (reportIn g s b)) .dropped ≡ cond t (hitsIn s (pageOf a)) (hitsIn s (pageOf a) + hitsIn s (pageOf b))
       go true = notice-drops a
       go false = ap₂ _+_ (notice-drops a) (notice-drops b)
+
+  list-drops : (list : List ℕ) → reportOnce g s list .dropped ≡ hitsOver s list
+  unfolding reportOnce hitsOver
+  list-drops [] = refl
+  list-drops (a ∷ rest) = go (names rest (pageOf a)) refl (list-drops rest)
+    where
+      go : (t : Bool) → names rest (pageOf a) ≡ t → reportOnce g s rest .dropped ≡ hitsOver s rest → reportOnce g s (a ∷ rest) .dropped ≡ hitsOver s (a ∷ rest)
+      go true n ih = rw n ih
+      go false n ih = rw n (ap₂ _+_ (notice-drops a) ih)
 
   write-drops : (m : List ℕ) (a n v : ℕ) (r : Report) → writeCall s m a n v .0 ≡ Reported r → r .dropped ≡ hitsAcross s a (a + n - 1)
   write-drops m a n v r q = go (writeJudged (Sound g) (length m) a n) refl (rw (y .sound) at q)
@@ -107,6 +151,19 @@ module _ (p : Past) (l : Lent) (start : Follows p (l .store)) (calls : List Call
 
   pub live-dropped : (a : ℕ) → HitIn (run calls l .store) (pageOf a) → 1 ≤ reported (noticeCall (run calls l .store) a .0) .dropped
   live-dropped a w = subst (λ (k : ℕ). 1 ≤ k) (sym (dropped-is a)) (one-hits (run calls l .store) (pageOf a) w)
+
+  -- a list of notices, by the pages of its addresses
+  module _ (list : List ℕ) where
+    pub notices-dropped-is : reported (noticesCall (run calls l .store) list .0) .dropped ≡ hitsOver (run calls l .store) list
+    notices-dropped-is =
+        let y = stands p l start calls g h is in
+        rw (y .sound) (ap (λ (r : Report). r .dropped) (report-once g (run calls l .store) (opened-fits (run calls l .store) g (y .sound)) list) ∙ list-drops g h (run calls l .store) y list)
+
+    pub notices-dropped-live : 1 ≤ reported (noticesCall (run calls l .store) list .0) .dropped → HitOver (run calls l .store) list
+    notices-dropped-live c = over-one (run calls l .store) list (subst (λ (k : ℕ). 1 ≤ k) notices-dropped-is c)
+
+    pub live-notices-dropped : HitOver (run calls l .store) list → 1 ≤ reported (noticesCall (run calls l .store) list .0) .dropped
+    live-notices-dropped w = subst (λ (k : ℕ). 1 ≤ k) (sym notices-dropped-is) (one-over (run calls l .store) list w)
 
   -- an accepted guest write, by the pages of its first byte and its last
   module _ (a n v : ℕ) (r : Report) (accepted : writeCall (run calls l .store) (run calls l .memory) a n v .0 ≡ Reported r) where

@@ -30,7 +30,7 @@ use Rattle.write.specs.Write.{writeJudged, writeCall}
 use Rattle.write.proofs.Granted.{Granted}
 use Rattle.history.specs.History.{Event, inserted, touched, flushed, Every, none-left, and-then, OfInserted, shown}
 use Rattle.history.proofs.Sentences.{no-some, shown-was}
-use Rattle.guarantee.specs.Calls.{Use, lookup, insert, notice, flush, generation, write, Call, make, uses, Lent, done, run, lookedUp}
+use Rattle.guarantee.specs.Calls.{Use, lookup, insert, notice, notices, flush, generation, write, Call, make, uses, Lent, done, run, lookedUp}
 use Rattle.guarantee.specs.Past.{Past, unmade, since, pageOf, ifAccepted, crossed, events, grown, past, pastOf}
 use Rattle.guarantee.specs.Stands.{Possible, Stands, Follows}
 use Rattle.guarantee.specs.Honest.{Former, Local, Fresh, Honest}
@@ -138,6 +138,7 @@ module _ (form : Former) where
     still g h l y (lookup a) i = i
     still g h l y (insert a rec) i = i
     still g h l y (notice a) i = i
+    still g h l y (notices list) i = i
     still g h l y flush i = i
     still g h l y generation i = i
     still g h l y (write a n v) i = write-still g h (l .store) (l .memory) y a n v i

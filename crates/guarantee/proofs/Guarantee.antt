@@ -20,14 +20,15 @@ use Rattle.cache.specs.declared.ReportAnswer.{ReportAnswer}
 use Rattle.cache.specs.declared.ReportAnswer.the-variants.{Reported}
 use Rattle.cache.specs.declared.Judged.{Judged}
 use Rattle.cache.specs.declared.Judged.the-variants.{Accepted, Rejected}
+use Rattle.notices.specs.Notices.{noticesCall}
 use Rattle.write.specs.Write.{writeJudged, writeCall}
 use Rattle.history.specs.History.{Event, insertions, shown, marked, Lives, Marked}
 use Rattle.history.proofs.Sentences.{shown-lives, lives-shown, marked-is, is-marked, shown-was}
 use Rattle.guarantee.specs.Calls.{write, Call, Lent, run, lookedUp}
-use Rattle.guarantee.specs.Past.{Past, since, pageOf, events, pastOf}
+use Rattle.guarantee.specs.Past.{Past, since, pageOf, touches, events, pastOf}
 use Rattle.guarantee.specs.Stands.{Possible, Stands, Follows}
 use Rattle.guarantee.specs.Answers.{lookupAnswered, partFor, report, reports, answered, writeAnswered}
-use Rattle.guarantee.proofs.Simulation.{fits-accepted, unmarked-drops, notice-reports, write-reports}
+use Rattle.guarantee.proofs.Simulation.{fits-accepted, unmarked-drops, notice-reports, notices-reports, write-reports}
 use Rattle.guarantee.proofs.Lookup.{lookup-is, lookup-returns}
 use Rattle.guarantee.proofs.Run.{write-own, kept}
 
@@ -90,6 +91,9 @@ module _ (p : Past) (l : Lent) (start : Follows p (l .store)) (calls : List Call
 
   pub notice-answers : (a : ℕ) → noticeCall (run calls l .store) a .0 ≡ Reported (report g h (pageOf a))
   notice-answers a = rw (stands .sound) (ap Reported (notice-reports g h (run calls l .store) stands a))
+
+  pub notices-answers : (list : List ℕ) → noticesCall (run calls l .store) list .0 ≡ Reported (reports g h (touches list))
+  notices-answers list = rw (stands .sound) (ap Reported (notices-reports g h (run calls l .store) stands list))
 
   -- in one sentence (docs/FORMATS.md, Slots examined): every slot exactly when the page had an accepted insertion, and since came no notice or write in it, and no flush
   pub examines-all : (a : ℕ) → Marked (slotOf g) pageOf h (pageOf a) → reported (noticeCall (run calls l .store) a .0) .examined ≡ 2 ^ g .e

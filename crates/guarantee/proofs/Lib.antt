@@ -4,6 +4,7 @@ pub mod Lookup
 pub mod Run
 pub mod Guarantee
 pub mod Spent
+pub mod Batch
 pub mod Dropped
 pub mod Fresh
 pub mod Reading

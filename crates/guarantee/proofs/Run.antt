@@ -10,26 +10,27 @@ use lib.ListN.{length}
 use borrow.Author.Tests.{eqb-true}
 use Rattle.bits.specs.Bytes.{le, patch}
 use Rattle.bits.proofs.Bytes.{length-le, length-patch}
-use Rattle.bits.proofs.Tests.{and-both}
-use Rattle.store.specs.Layout.{header, inBounds, storeLen, geometry, opened, holds, Fitting}
+use Rattle.store.specs.Layout.{header, inBounds, storeLen, geometry, opened, Fitting}
 use Rattle.store.specs.declared.Geometry.{Geometry}
 use Rattle.store.specs.declared.Opened.{Opened}
 use Rattle.store.specs.declared.Opened.the-variants.{Sound, NotAStore}
 use Rattle.store.proofs.Known.{bounds-are}
 use Rattle.store.proofs.Held.{place-long}
 use Rattle.store.proofs.View.{fitting-blank, fitting-flushed, header-long}
-use Rattle.cache.specs.Calls.{makeCall, insertJudged, insertedIn, insertBy, insertCall, watched, noticedIn, noticeBy, noticeCall, flushBy, flushCall}
+use Rattle.cache.specs.Calls.{makeCall, insertJudged, insertedIn, insertBy, insertCall, noticedIn, noticeBy, noticeCall, flushBy, flushCall}
 use Rattle.cache.specs.declared.Judged.{Judged}
 use Rattle.cache.specs.declared.Judged.the-variants.{Accepted, Rejected}
 use Rattle.cache.proofs.Checks.{opened-fits, Taken, insert-taken}
-use Rattle.cache.proofs.View.{fitting-evicted, fitting-inserted}
+use Rattle.cache.proofs.View.{fitting-inserted, fitting-noticed}
+use Rattle.notices.specs.Notices.{noticesBy, noticesCall}
+use Rattle.notices.proofs.Sums.{fitting-all}
 use Rattle.write.specs.Write.{writeJudged, noticedPages, writeBy, writeCall}
 use Rattle.write.proofs.Granted.{Granted, write-granted}
 use Rattle.history.specs.History.{Event}
-use Rattle.guarantee.specs.Calls.{Use, lookup, insert, notice, flush, generation, write, Call, make, uses, Lent, storing, done, run}
+use Rattle.guarantee.specs.Calls.{Use, lookup, insert, notice, notices, flush, generation, write, Call, make, uses, Lent, storing, done, run}
 use Rattle.guarantee.specs.Past.{Past, unmade, since, pageOf, events, grown, past, pastOf}
 use Rattle.guarantee.specs.Stands.{Stands, Follows}
-use Rattle.guarantee.proofs.Simulation.{make-keeps, flush-keeps, insert-keeps, notice-keeps, write-keeps}
+use Rattle.guarantee.proofs.Simulation.{make-keeps, flush-keeps, insert-keeps, notice-keeps, notices-keeps, write-keeps}
 
 -- no call changes the length of a buffer
 length-insert : (s : List ℕ) (a : ℕ) (rec : List ℕ) → length (insertCall s a rec .1) ≡ length s
@@ -42,25 +43,25 @@ length-insert s a rec = go (insertJudged (opened s) a rec) refl
     go (Accepted g) e = accepted g (insert-taken s a rec g e)
     go (Rejected why) e = refl
 
-fitting-noticed : (g : Geometry) (s : List ℕ) (a : ℕ) → Fitting g s → Fitting g (noticedIn g s a)
-fitting-noticed g s a f = go (watched g s a) refl
-  where
-    go : (t : Bool) → watched g s a ≡ t → Fitting g (noticedIn g s a)
-    go true e = rw e (fitting-evicted g s f a (and-both (holds g a) _ e .0))
-    go false e = rw e f
-
 fitting-touched : (g : Geometry) (s : List ℕ) (a b : ℕ) → Fitting g s → Fitting g (noticedPages g s a b)
 fitting-touched g s a b f = go (eqb (pageOf a) (pageOf b)) refl
   where
     go : (t : Bool) → eqb (pageOf a) (pageOf b) ≡ t → Fitting g (noticedPages g s a b)
-    go true e = rw e (fitting-noticed g s a f)
-    go false e = rw e (fitting-noticed g (noticedIn g s a) b (fitting-noticed g s a f))
+    go true e = rw e (fitting-noticed g s f a)
+    go false e = rw e (fitting-noticed g (noticedIn g s a) (fitting-noticed g s f a) b)
 
 length-notice : (s : List ℕ) (a : ℕ) → length (noticeCall s a .1) ≡ length s
 length-notice s a = go (opened s) refl
   where
     go : (o : Opened) → opened s ≡ o → length (noticeBy o s a .1) ≡ length s
-    go (Sound g) e = let f = opened-fits s g e in fitting-noticed g s a f .exact ∙ sym (f .exact)
+    go (Sound g) e = let f = opened-fits s g e in fitting-noticed g s f a .exact ∙ sym (f .exact)
+    go NotAStore e = refl
+
+length-notices : (s list : List ℕ) → length (noticesCall s list .1) ≡ length s
+length-notices s list = go (opened s) refl
+  where
+    go : (o : Opened) → opened s ≡ o → length (noticesBy o s list .1) ≡ length s
+    go (Sound g) e = let f = opened-fits s g e in fitting-all g s f list .exact ∙ sym (f .exact)
     go NotAStore e = refl
 
 length-flush : (s : List ℕ) → length (flushCall s .1) ≡ length s
@@ -93,6 +94,7 @@ unfolding done
 length-store (lookup a) l = refl
 length-store (insert a rec) l = length-insert (l .store) a rec
 length-store (notice a) l = length-notice (l .store) a
+length-store (notices list) l = length-notices (l .store) list
 length-store flush l = length-flush (l .store)
 length-store generation l = refl
 length-store (write a n v) l = length-write (l .store) (l .memory) a n v
@@ -102,6 +104,7 @@ unfolding done
 length-room (lookup a) l = refl
 length-room (insert a rec) l = refl
 length-room (notice a) l = refl
+length-room (notices list) l = refl
 length-room flush l = refl
 length-room generation l = refl
 length-room (write a n v) l = length-memory (l .store) (l .memory) a n v
@@ -143,6 +146,7 @@ unfolding events done
 keeps g h l y (lookup a) = y
 keeps g h l y (insert a rec) = insert-follows g h (l .store) y (l .memory) a rec
 keeps g h l y (notice a) = rw (y .sound) (notice-keeps g h (l .store) y a)
+keeps g h l y (notices list) = rw (y .sound) (notices-keeps g h (l .store) y list)
 keeps g h l y flush = rw (y .sound) (flush-keeps g h (l .store) y)
 keeps g h l y generation = y
 keeps g h l y (write a n v) = write-follows g h (l .store) y (l .memory) a n v

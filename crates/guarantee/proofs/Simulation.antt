@@ -2,7 +2,7 @@
 -- Assumes nothing.
 use mathlib.Core.Path.{_≡_, refl, sym, ap, ap₂, subst, _∙_}
 use mathlib.Core.Bool.{Bool, true, false, cond, _&&_, _||_, not}
-use mathlib.Core.List.{List, [], _∷_, _++_}
+use mathlib.Core.List.{List, [], _∷_, _++_, append-assoc}
 use mathlib.Core.Option.{none}
 use Prim.Native.Nat.{ℕ, suc, _+_, _-_, _*_, _/_, _%_, _^_, _≤_, _<_}
 use native.Mathlib.Omega.{arith}
@@ -23,18 +23,18 @@ use Rattle.store.proofs.Known.{holds-are, are-held, page-lt, slot-lt}
 use Rattle.store.proofs.Held.{place-long, place-named, record-back}
 use Rattle.store.proofs.Places.{length-empty, empty-address}
 use Rattle.store.proofs.View.{opened-flushed, generation-flushed, bits-flushed, place-flushed, opened-made, generation-made, bits-made, place-made}
-use Rattle.cache.specs.Answers.{nothingDone}
 use Rattle.cache.specs.Calls.{insertJudged, watched, evicted, noticedIn, droppedIn, reportIn, summed, insertedIn}
 use Rattle.cache.specs.declared.Judged.the-variants.{Accepted}
-use Rattle.cache.specs.declared.Report.{Report}
 use Rattle.cache.proofs.Checks.{opened-fits, insert-taken}
+use Rattle.cache.proofs.Reports.{same-report, summed-none, none-summed, summed-assoc}
 use Rattle.cache.proofs.View.{opened-evicted, generation-evicted, bits-evicted, place-evicted, opened-inserted, generation-inserted, bits-inserted, place-inserted, report-apart}
+use Rattle.notices.specs.Notices.{noticedAll, reportAll}
 use Rattle.write.specs.Write.{noticedPages, reportPages}
 use Rattle.history.specs.History.{Event, inserted, touched, flushed, Every, none-left, and-then, insertions, shown, marked}
 use Rattle.history.proofs.Sentences.{no-some}
 use Rattle.history.proofs.Places.{Place, empty, full, swept, places, Was, was, full-shown, shown-full, empty-none}
 use Rattle.history.proofs.Dropped.{placeInPage, places-hits, unmarked-none}
-use Rattle.guarantee.specs.Past.{pageOf, crossed}
+use Rattle.guarantee.specs.Past.{pageOf, crossed, touches}
 use Rattle.guarantee.specs.Stands.{Possible, Stands}
 use Rattle.guarantee.specs.Answers.{live, report, reports}
 
@@ -87,9 +87,6 @@ same-test g a q b h =
     decide ((a - g .base) / 4096) q
     (λ e. eq-eqb ((a - g .base) / 4096) q e ∙ sym (eq-eqb (pageOf a) (pageOf (g .base) + q) (page-shift g a b h ∙ ap (λ (k : ℕ). pageOf (g .base) + k) e)))
     (λ n. ne-eqb ((a - g .base) / 4096) q n ∙ sym (ne-eqb (pageOf a) (pageOf (g .base) + q) (λ e. n (omega (arith, page-shift g a b h)))))
-
-pub same-report : {p q : Report} → p .examined ≡ q .examined → p .dropped ≡ q .dropped → p ≡ q
-same-report e d = ap₂ (λ (n k : ℕ). record { examined = n; dropped = k }) e d
 
 -- the addresses of a page
 abbrev pub firstOf : ℕ → ℕ
@@ -230,6 +227,10 @@ module _ (g : Geometry) (h : List Event) (s : List ℕ) (y : Stands g h s) where
         go true e = rw (e, sym (watched-marked a) ∙ e) (same-report refl (counted (and-both (holds g a) _ e .0)))
         go false e = let m = sym (watched-marked a) ∙ e in rw (e, m) (same-report refl (sym (unmarked-drops m)))
 
+    pub touch-reports : reportIn g s a ≡ reports g h (touched (pageOf a) ∷ [])
+    unfolding reports
+    touch-reports = notice-reports ∙ sym (summed-none (report g h (pageOf a)))
+
     pub notice-keeps : Stands g (touched (pageOf a) ∷ h) (noticedIn g s a)
     notice-keeps = go (watched g s a) refl
       where
@@ -237,12 +238,28 @@ module _ (g : Geometry) (h : List Event) (s : List ℕ) (y : Stands g h s) where
         go true e = rw e (swept-places (sym (watched-marked a) ∙ e) (and-both (holds g a) _ e .0))
         go false e = rw e (unwatched (sym (watched-marked a) ∙ e))
 
--- the first report of a sum
-pub alone : (r : Report) → summed nothingDone r ≡ r
-alone r = same-report (sum (r .examined)) (sum (r .dropped))
-  where
-    sum : (n : ℕ) → 0 + n ≡ n
-    sum n = omega arith
+-- what two lists of events report, one behind the other
+reports-append : (g : Geometry) (h old new : List Event) → reports g h (new ++ old) ≡ summed (reports g h old) (reports g (old ++ h) new)
+unfolding reports
+reports-append g h old [] = sym (none-summed (reports g h old))
+reports-append g h old (inserted a r ∷ new) = reports-append g h old new
+reports-append g h old (touched p ∷ new) =
+    ap₂ (λ r k. summed r (report g k p)) (reports-append g h old new) (append-assoc new old h)
+    ∙ summed-assoc (reports g h old) (reports g (old ++ h) new) (report g (new ++ (old ++ h)) p)
+reports-append g h old (flushed ∷ new) = reports-append g h old new
+
+-- the notices of a list
+pub notices-reports : (g : Geometry) (h : List Event) (s : List ℕ) → Stands g h s → (list : List ℕ) → reportAll g s list ≡ reports g h (touches list)
+unfolding reportAll touches reports
+notices-reports g h s y [] = refl
+notices-reports g h s y (a ∷ rest) =
+    ap₂ summed (touch-reports g h s y a) (notices-reports g (touched (pageOf a) ∷ h) (noticedIn g s a) (notice-keeps g h s y a) rest)
+    ∙ sym (reports-append g h (touched (pageOf a) ∷ []) (touches rest))
+
+pub notices-keeps : (g : Geometry) (h : List Event) (s : List ℕ) → Stands g h s → (list : List ℕ) → Stands g (touches list ++ h) (noticedAll g s list)
+unfolding noticedAll touches
+notices-keeps g h s y [] = y
+notices-keeps g h s y (a ∷ rest) = rw append-assoc (notices-keeps g (touched (pageOf a) ∷ h) (noticedIn g s a) (notice-keeps g h s y a) rest)
 
 -- the notices of a write from a to b
 module _ (g : Geometry) (h : List Event) (s : List ℕ) (y : Stands g h s) (a b : ℕ) where
@@ -253,16 +270,13 @@ module _ (g : Geometry) (h : List Event) (s : List ℕ) (y : Stands g h s) (a b 
   unfolding reports
   write-reports = go (eqb (pageOf a) (pageOf b)) refl
     where
-      first : reportIn g s a ≡ summed nothingDone (report g h (pageOf a))
-      first = notice-reports g h s y a ∙ sym (alone (report g h (pageOf a)))
-
       -- the first page's notice leaves the second's report
       last : eqb (pageOf a) (pageOf b) ≡ false → reportIn g s b ≡ report g (touched (pageOf a) ∷ h) (pageOf b)
       last e = sym (report-apart g s (fits g h s y) a b (eqb-false (pageOf a) (pageOf b) e)) ∙ notice-reports g (touched (pageOf a) ∷ h) (noticedIn g s a) second b
 
       go : (t : Bool) → eqb (pageOf a) (pageOf b) ≡ t → reportPages g s a b ≡ reports g h (crossed a b)
-      go true e = rw e first
-      go false e = rw e (ap₂ summed first (last e))
+      go true e = rw e (touch-reports g h s y a)
+      go false e = rw e (ap₂ summed (touch-reports g h s y a) (last e))
 
   pub write-keeps : Stands g (crossed a b ++ h) (noticedPages g s a b)
   write-keeps = go (eqb (pageOf a) (pageOf b)) refl

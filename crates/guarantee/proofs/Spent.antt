@@ -1,9 +1,8 @@
 -- What the calls since the last accepted Make reported is the sum that their past gives: so at most 2 ^ e slots for each accepted insertion of it, and one place.
 -- Assumes nothing.
-use mathlib.Core.Path.{_≡_, refl, sym, ap, ap₂, subst, _∙_}
+use mathlib.Core.Path.{_≡_, refl, ap, ap₂, subst, _∙_}
 use mathlib.Core.List.{List, [], _∷_, _++_}
-use Prim.Native.Nat.{ℕ, _+_, _*_, _^_, _≤_}
-use native.Mathlib.Omega.{arith}
+use Prim.Native.Nat.{ℕ, _*_, _^_, _≤_}
 use lib.ListN.{length}
 use Rattle.store.specs.Layout.{slotOf}
 use Rattle.store.specs.declared.Geometry.{Geometry}
@@ -14,33 +13,29 @@ use Rattle.cache.specs.Calls.{makeJudged, insertJudged, summed}
 use Rattle.cache.specs.declared.Judged.{Judged}
 use Rattle.cache.specs.declared.Judged.the-variants.{Accepted, Rejected}
 use Rattle.cache.specs.declared.Report.{Report}
+use Rattle.cache.proofs.Reports.{summed-none, summed-assoc, summed-comm}
 use Rattle.write.specs.Write.{writeJudged}
 use Rattle.history.specs.History.{Event, inserted, touched, flushed, insertions, total}
 use Rattle.history.proofs.Bound.{bound}
 use Rattle.history.proofs.Dropped.{dropped-bound}
-use Rattle.guarantee.specs.Calls.{Use, lookup, insert, notice, flush, generation, write, Call, make, uses, Lent, done, run}
+use Rattle.guarantee.specs.Calls.{Use, lookup, insert, notice, notices, flush, generation, write, Call, make, uses, Lent, done, run}
 use Rattle.guarantee.specs.Past.{Past, unmade, since, pageOf, ifAccepted, events, grown, past, pastOf}
 use Rattle.guarantee.specs.Stands.{Stands, Follows}
 use Rattle.guarantee.specs.Answers.{report, reports, writeAnswered, reportedBy, spent}
-use Rattle.guarantee.proofs.Simulation.{firstOf, in-page, its-page, notice-reports, same-report, alone}
+use Rattle.guarantee.proofs.Simulation.{firstOf, in-page, its-page, touch-reports, notices-reports}
 use Rattle.guarantee.proofs.Run.{kept}
 use Rattle.guarantee.proofs.Guarantee.{write-is}
+
+-- of two reports on top of a third, either may come first
+pub turned : (x y z : Report) → summed (summed x y) z ≡ summed y (summed x z)
+turned x y z = ap (λ (r : Report). summed r z) (summed-comm x y) ∙ summed-assoc y x z
 
 -- what a call's events report comes on top of what the past has
 added : (g : Geometry) (h new : List Event) → summed (reports g h new) (reportedBy (since g h)) ≡ reportedBy (since g (new ++ h))
 unfolding reports total
-added g h [] = alone (reportedBy (since g h))
+added g h [] = summed-none (reportedBy (since g h))
 added g h (inserted a rec ∷ new) = added g h new
-added g h (touched p ∷ new) = turned (reports g h new) (report g (new ++ h) p) (reportedBy (since g h)) (reportedBy (since g (new ++ h))) (added g h new)
-  where
-    sums : (x y z w : ℕ) → x + z ≡ w → x + y + z ≡ y + w
-    sums x y z w e = omega arith
-
-    turned : (x y z w : Report) → summed x z ≡ w → summed (summed x y) z ≡ summed y w
-    turned x y z w e =
-        same-report
-        (sums (x .examined) (y .examined) (z .examined) (w .examined) (ap (λ (r : Report). r .examined) e))
-        (sums (x .dropped) (y .dropped) (z .dropped) (w .dropped) (ap (λ (r : Report). r .dropped) e))
+added g h (touched p ∷ new) = turned (reports g h new) (report g (new ++ h) p) (reportedBy (since g h)) ∙ ap (summed (report g (new ++ h) p)) (added g h new)
 added g h (flushed ∷ new) = added g h new
 
 -- a call reports what its events do
@@ -52,7 +47,8 @@ call-reports g h l y (insert a rec) = go (insertJudged (Sound g) a rec) refl
     go : (j : Judged) → insertJudged (Sound g) a rec ≡ j → nothingDone ≡ reports g h (events (length (l .memory)) g (insert a rec))
     go (Accepted k) e = rw e
     go (Rejected why) e = rw e
-call-reports g h l y (notice a) = rw (y .sound) (notice-reports g h (l .store) y a ∙ sym (alone (report g h (pageOf a))))
+call-reports g h l y (notice a) = rw (y .sound) (touch-reports g h (l .store) y a)
+call-reports g h l y (notices list) = rw (y .sound) (notices-reports g h (l .store) y list)
 call-reports g h l y flush = refl
 call-reports g h l y generation = refl
 call-reports g h l y (write a n v) = ap reported (write-is g h (l .store) y (l .memory) a n v) ∙ go (writeJudged (Sound g) (length (l .memory)) a n) refl

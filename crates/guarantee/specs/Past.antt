@@ -12,7 +12,7 @@ use Rattle.cache.specs.declared.Judged.{Judged}
 use Rattle.cache.specs.declared.Judged.the-variants.{Accepted, Rejected}
 use Rattle.write.specs.Write.{writeJudged}
 use Rattle.history.specs.History.{Event, inserted, touched, flushed}
-use Rattle.guarantee.specs.Calls.{Use, lookup, insert, notice, flush, generation, write, Call, make, uses, Lent}
+use Rattle.guarantee.specs.Calls.{Use, lookup, insert, notice, notices, flush, generation, write, Call, make, uses, Lent}
 
 -- nothing before a store is made; from then on its geometry, and the events since, the newest first
 pub data Past : Type 0 where
@@ -32,11 +32,17 @@ ifAccepted (Rejected why) x y = y
 abbrev pub crossed : ℕ → ℕ → List Event
 crossed a b = cond (eqb (pageOf a) (pageOf b)) (touched (pageOf a) ∷ []) (touched (pageOf b) ∷ touched (pageOf a) ∷ [])
 
+-- a list of notices touches the page of each address, one after the other
+unfoldable pub touches : List ℕ → List Event
+touches [] = []
+touches (a ∷ rest) = touches rest ++ touched (pageOf a) ∷ []
+
 -- the events of a call, the newest first, on a store of this geometry and a memory of `mLen` bytes; a refusal is none
 unfoldable pub events : ℕ → Geometry → Use → List Event
 events mLen g (lookup a) = []
 events mLen g (insert a rec) = ifAccepted (insertJudged (Sound g) a rec) (λ k. inserted a rec ∷ []) []
 events mLen g (notice a) = touched (pageOf a) ∷ []
+events mLen g (notices list) = touches list
 events mLen g flush = flushed ∷ []
 events mLen g generation = []
 events mLen g (write a n v) = ifAccepted (writeJudged (Sound g) mLen a n) (λ k. crossed a (a + n - 1)) []

@@ -7,13 +7,14 @@ use mathlib.Core.List.{List}
 use Prim.Native.Nat.{ℕ, _+_, _-_, _*_, _/_, _%_, _^_, _≤_, _<_, min, max}
 use native.Mathlib.Omega.{arith}
 use native.Mathlib.Nat.{one-mul}
+use lib.Bits.{bitAnd, and-le-r}
 use lib.Dec.{eqb, lit<}
 use lib.ListN.{length, getD, set}
 use lib.Pow.{pow-mono}
-use lib.Seq.{getD-set-same, getD-set-other}
+use lib.Seq.{getD-set-same, getD-set-other, set-set, set-comm}
 use borrow.Author.Tests.{eqb-true, eqb-false, eq-eqb, ne-eqb}
-use Rattle.bits.specs.Bits.{bit}
-use Rattle.bits.proofs.Bit.{lt-or-ge, bit-lt, bit-above, bit-shl, bit-shl-low, bit-and, bit-or, bit-not}
+use Rattle.bits.specs.Bits.{bit, fromBits}
+use Rattle.bits.proofs.Bit.{lt-or-ge, bit-lt, bit-above, by-bits, from-bits-same, bit-shl, bit-shl-low, bit-and, bit-or, bit-not}
 use Rattle.bits.proofs.Every.{decide}
 use Rattle.store.specs.Places.{pageBit, putBit, withBit}
 
@@ -71,3 +72,39 @@ bit-with s p q v f = go (eqb (p / 8) (q / 8)) refl
         ∙ ap (λ (k : ℕ). cond (eqb p q) v (eqb (bit (getD s (32 + k) 0) (q % 8)) 1)) w
     go false e =
         rw (getD-set-other s (32 + p / 8) (32 + q / 8) b 0 (λ h. eqb-false (p / 8) (q / 8) e (omega arith)), ne-eqb p q (λ h. eqb-false (p / 8) (q / 8) e (ap (λ (k : ℕ). k / 8) h)))
+
+-- two bits of a byte are cleared in either order, and so two page bits
+clear-comm : (k j x : ℕ) → putBit false k (putBit false j x) ≡ putBit false j (putBit false k x)
+unfolding putBit
+clear-comm k j x = swap (255 - 2 ^ j) (255 - 2 ^ k) (omega arith) (omega arith)
+  where
+    bits : ℕ → ℕ → ℕ → ℕ
+    bits m n i = min (min (bit x i) (bit m i)) (bit n i)
+
+    is : (m n : ℕ) → n < 256 → bitAnd (bitAnd x m) n ≡ fromBits 8 (bits m n)
+    is m n h = by-bits 8 _ (bits m n) (let w = and-le-r (bitAnd x m) n in omega arith) (λ i l. rw (bit-and (bitAnd x m) n i, bit-and x m i))
+
+    swap : (m n : ℕ) → m < 256 → n < 256 → bitAnd (bitAnd x m) n ≡ bitAnd (bitAnd x n) m
+    swap m n hm hn = is m n hn ∙ from-bits-same 8 (bits m n) (bits n m) (λ i l. omega arith) ∙ sym (is n m hm)
+
+pub with-comm : (s : List ℕ) (p q : ℕ) → 32 + p / 8 < length s → withBit (withBit s p false) q false ≡ withBit (withBit s q false) p false
+unfolding withBit
+with-comm s p q f = decide (p / 8) (q / 8) same other
+  where
+    at : ℕ → ℕ
+    at k = 32 + k / 8
+
+    off : ℕ → ℕ → ℕ
+    off k x = putBit false (k % 8) x
+
+    -- the byte of both
+    same : p / 8 ≡ q / 8 → withBit (withBit s p false) q false ≡ withBit (withBit s q false) p false
+    same e =
+        rw (← e)
+        (rw (getD-set-same s (at p) (off p (getD s (at p) 0)) 0 f, getD-set-same s (at p) (off q (getD s (at p) 0)) 0 f)
+        (set-set s (at p) _ _ ∙ ap (set s (at p)) (clear-comm (q % 8) (p % 8) (getD s (at p) 0)) ∙ sym (set-set s (at p) _ _)))
+
+    other : (p / 8 ≡ q / 8 → ⊥) → withBit (withBit s p false) q false ≡ withBit (withBit s q false) p false
+    other n =
+        rw (getD-set-other s (at p) (at q) (off p (getD s (at p) 0)) 0 (λ h. n (omega arith)), getD-set-other s (at q) (at p) (off q (getD s (at q) 0)) 0 (λ h. n (omega arith)))
+        (set-comm s (at p) (at q) (off p (getD s (at p) 0)) (off q (getD s (at q) 0)) (λ h. n (omega arith)))

@@ -35,17 +35,32 @@ pub empty-address : (z : ℕ) → doublewordAt (emptyPlace z) 0 ≡ 0xFFFF_FFFF_
 unfolding emptyPlace
 empty-address z = refl
 
+-- no page of memory holds an empty place
+empty-out : (v z : ℕ) → v < 0xF_FFFF_FFFF_FFFF → inPage v (emptyPlace z) ≡ false
+empty-out v z low = ne-eqb (doublewordAt (emptyPlace z) 0 / 4096) v (λ q. omega (arith, empty-address z))
+
+-- a place lies in one page
+one-page : (w v : ℕ) (p : List ℕ) → (w ≡ v → ⊥) → inPage w p ≡ true → inPage v p ≡ false
+one-page w v p n e = ne-eqb (doublewordAt p 0 / 4096) v (λ q. n (sym (eqb-true _ _ e) ∙ q))
+
 -- emptying the places of one page leaves another page's as they were
 pub emptied-apart : (w v : ℕ) (p : List ℕ) → (w ≡ v → ⊥) → v < 0xF_FFFF_FFFF_FFFF → inPage v (emptied w p) ≡ inPage v p
 unfolding emptied
 emptied-apart w v p n low = go (inPage w p) refl
   where
     go : (b : Bool) → inPage w p ≡ b → inPage v (cond b (emptyPlace (length p)) p) ≡ inPage v p
-    go true e =
-        let here : doublewordAt p 0 / 4096 ≡ w = eqb-true _ _ e in
-        ne-eqb (doublewordAt (emptyPlace (length p)) 0 / 4096) v (λ q. omega (arith, empty-address (length p)))
-        ∙ sym (ne-eqb (doublewordAt p 0 / 4096) v (λ q. n (sym here ∙ q)))
+    go true e = empty-out v (length p) low ∙ sym (one-page w v p n e)
     go false e = refl
+
+-- and two pages' are emptied in either order
+pub emptied-comm : (w v : ℕ) (p : List ℕ) → (w ≡ v → ⊥) → w < 0xF_FFFF_FFFF_FFFF → v < 0xF_FFFF_FFFF_FFFF → emptied v (emptied w p) ≡ emptied w (emptied v p)
+unfolding emptied
+emptied-comm w v p n lw lv = go (inPage w p) refl (inPage v p) refl
+  where
+    go : (b : Bool) → inPage w p ≡ b → (c : Bool) → inPage v p ≡ c → emptied v (emptied w p) ≡ emptied w (emptied v p)
+    go true e c d = rw (e, one-page w v p n e, e, empty-out v (length p) lv)
+    go false e true d = rw (e, d, empty-out w (length p) lw)
+    go false e false d = rw (e, d, e)
 
 pub length-emptied : (w : ℕ) (p : List ℕ) → 8 ≤ length p → length (emptied w p) ≡ length p
 unfolding emptied

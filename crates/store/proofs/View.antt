@@ -12,7 +12,7 @@ use native.Mathlib.Decide.{decLt}
 use lib.Dec.{eqb, leb, ltb, lit<}
 use lib.ListN.{length, getD, set, take, drop, replicate, length-append, length-take, length-replicate, getD-replicate, drop-of-length-le, replicate-append-replicate, List·getD-append}
 use lib.Pow.{pow-pos}
-use lib.Seq.{ext-getD, set-split, getD-append-add, getD-take, take-at, drop-at, drop-drop, length-take-le}
+use lib.Seq.{ext-getD, set-split, getD-append-add, getD-take, take-at, take-set-lt, drop-at, drop-drop, length-take-le}
 use borrow.Author.Tests.{eqb-true, eqb-false, ne-eqb, lt-ltb, le-ltb}
 use Rattle.bits.specs.Bits.{bit}
 use Rattle.bits.proofs.Bit.{bit-above}
@@ -72,6 +72,11 @@ module _ (s : List ℕ) (at : ℕ) (p : List ℕ) (f : at + length p ≤ length 
 
   pub place-patch-low : (g : Geometry) (i : ℕ) → at + length p ≤ front (g .pages) → placeIn g (patch s at p) i ≡ placeIn g s i
   place-patch-low g i h = part-behind s at p (placeAt g i) (g .stride) f (omega arith)
+
+-- a page's bit lies in the front
+pub front-with : (s : List ℕ) (p n : ℕ) (v : Bool) → 32 + p / 8 < n → part (withBit s p v) 0 n ≡ withBit (part s 0 n) p v
+unfolding withBit part
+front-with s p n v h = take-set-lt n s (32 + p / 8) _ h ∙ rw (getD-take n s (32 + p / 8) 0 h)
 
 set-patch : (s : List ℕ) (i v : ℕ) → i < length s → set s i v ≡ patch s i (v ∷ [])
 unfolding patch
