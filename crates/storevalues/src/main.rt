@@ -123,20 +123,20 @@ fn displaced_by_another_page() {
     notice(&mut store, 0x1010);
 }
 
-// Lists of notices. A block on the first of two pages: the list has the other page, the first one twice and an address behind memory; then it finds
-// nothing more. With blocks on both pages, and with none in the list.
+// Lists of notices: a page with a block, one without, the first again; then nothing is left, in another order too. With blocks on both pages an
+// empty list, and a list that begins behind memory.
 fn lists() {
     let mut store = [0u8; 4200];
     line(cache::make(&mut store, 0, 2, 0, 2).number(), 0);
     insert(&mut store, 0x10);
-    notices(&mut store, &[0x1000, 0xfff, 0x2000, 0]);
-    notices(&mut store, &[0x1000, 0xfff, 0x2000, 0]);
+    notices(&mut store, &[0x10, 0x1000, 0xfff]);
+    notices(&mut store, &[0x1000, 0xfff, 0x10]);
     lookup(&store, 0x10);
     insert(&mut store, 0x10);
     insert(&mut store, 0x1012);
     notices(&mut store, &[]);
     lookup(&store, 0x10);
-    notices(&mut store, &[0x1fff, 0xfff]);
+    notices(&mut store, &[0x2000, 0x1fff, 0xfff]);
     lookup(&store, 0x10);
     lookup(&store, 0x1012);
 }
