@@ -104,6 +104,14 @@ static void round_of_the_cache(void) {
     number("insert", uv_insert(store, sizeof store, ROUTINE, record, sizeof record));
     report("notice of a write elsewhere", uv_notice(store, sizeof store, 0x2000));
     report("notice of a write to its page", uv_notice(store, sizeof store, 0x1FFF));
+
+    /* A batch of writes, in any order: both pages, the block's twice, and one outside memory. */
+    const uint64_t written[] = {0x2000, ROUTINE, 0x3000, 0x1FFF};
+    number("insert", uv_insert(store, sizeof store, ROUTINE, record, sizeof record));
+    report("notices: a list of none", uv_notices(store, sizeof store, NULL, 0));
+    report("notices of four writes", uv_notices(store, sizeof store, written, sizeof written / sizeof written[0]));
+    report("notices of them again", uv_notices(store, sizeof store, written, sizeof written / sizeof written[0]));
+    answer("lookup: gone", uv_lookup(store, sizeof store, ROUTINE));
     number("flush", uv_flush(store, sizeof store));
     answer("generation", uv_generation(store, sizeof store));
 }

@@ -7,8 +7,8 @@
  *
  * What a call asks of its caller:
  *
- * - A pointer beside a length means that many bytes, lent for the call: none is kept. No alignment is needed, and with length 0 the pointer may be
- *   NULL.
+ * - A pointer beside a length means that many bytes, and one beside a count that many addresses, lent for the call: none is kept. Bytes need no
+ *   alignment, addresses that of a uint64_t, and with length or count 0 the pointer may be NULL.
  * - Lent buffers do not overlap. What a lookup shows is a part of the store: to insert that record in the same store again, copy it out first.
  * - One caller at a time per store, as for every buffer that a call writes; calls that take a buffer as const may run beside each other. The library
  *   has no state of its own, allocates nothing, starts no thread and takes no lock.
@@ -20,9 +20,9 @@
 #include <stddef.h>
 #include <stdint.h>
 
-/* This header's version, as one number that grows: 300 is 0.3.0. */
+/* This header's version, as one number that grows: 400 is 0.4.0. */
 #define UNVRISCOL_VERSION_MAJOR 0
-#define UNVRISCOL_VERSION_MINOR 3
+#define UNVRISCOL_VERSION_MINOR 4
 #define UNVRISCOL_VERSION_PATCH 0
 #define UNVRISCOL_VERSION (10000 * UNVRISCOL_VERSION_MAJOR + 100 * UNVRISCOL_VERSION_MINOR + UNVRISCOL_VERSION_PATCH)
 
@@ -50,7 +50,7 @@ typedef struct {
     uint64_t value;
 } uv_answer;
 
-/* A number, and beside it what a notice or a guest write did. */
+/* A number, and beside it what a notice, a list of them or a guest write did: the sum over its pages, each counted once. */
 typedef struct {
     uint64_t number;
     uint64_t examined; /* slots that were looked at: 2^e for each page with its bit set */
@@ -190,7 +190,7 @@ uint64_t uv_form(uint64_t reading, const uint8_t *memory, size_t memory_len, uin
 uint64_t uv_make(uint8_t *store, size_t store_len, uint64_t reading, uint64_t e, uint64_t base, uint64_t pages);
 
 /* Look the block at an address up; the value is where in the store its UV_BLOCK_RECORD bytes begin. They are to be read there, and are that record
- * until the next call that changes the store: uv_make, uv_insert, uv_notice, uv_flush or uv_guest_write. Refusals: 1, 9. */
+ * until the next call that changes the store: uv_make, uv_insert, uv_notice, uv_notices, uv_flush or uv_guest_write. Refusals: 1, 9. */
 uv_answer uv_lookup(const uint8_t *store, size_t store_len, uint64_t address);
 
 /* Insert the record of the block at an address, in the place of whatever its slot held. The record does not say in which reading it was formed, so
@@ -202,6 +202,11 @@ uint64_t uv_insert(uint8_t *store, size_t store_len, uint64_t address, const uin
  * its last notice, guest write or flush, else 0, also for an address outside memory; dropped is above 0 exactly when a lookup of some address of the
  * page would have hit just before. Refusal: 1. */
 uv_report uv_notice(uint8_t *store, size_t store_len, uint64_t address);
+
+/* Tell the cache of writes at so many addresses, which are only read: one notice after the other, with examined and dropped the sums. Their order and
+ * repeats change nothing, neither in the store nor in the sums: addresses of one page are one notice. The header is checked once, and of an empty
+ * list that is all. Refusal: 1. */
+uv_report uv_notices(uint8_t *store, size_t store_len, const uint64_t *addresses, size_t count);
 
 /* Empty every place; the generation is kept. Refusal: 1. */
 uint64_t uv_flush(uint8_t *store, size_t store_len);

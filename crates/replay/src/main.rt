@@ -189,6 +189,32 @@ fn notice(entry: Entry, store: &mut [u8]) -> bool {
     reported(entry, cache::notice(store, entry.a))
 }
 
+// The addresses of an entry's list: from the first argument on in steps of the second, up to 2^17 behind and then round again.
+fn listed(entry: Entry) -> [u64; 64]
+    ensures { λ r. ⌜ length r ≡ 64 ⌝ }
+{
+    let mut list = [0u64; 64];
+    let mut behind = 0;
+    let mut i = 0;
+    while i < 64 {
+        list[i] = std::num::wrapping_add_u64(entry.a, behind);
+        behind = (behind + entry.b % 0x2_0000) % 0x2_0000;
+        i += 1;
+    }
+    list
+}
+
+fn notices(entry: Entry, store: &mut [u8]) -> bool {
+    let list = listed(entry);
+    if entry.small <= 64 {
+        return reported(
+            entry,
+            notices::notices(store, &list[..entry.small as usize]),
+        );
+    }
+    false
+}
+
 fn generation(entry: Entry, store: &[u8]) -> bool {
     let answer = cache::generation(store);
     both(entry, answer.number(), answer.value())
@@ -220,6 +246,7 @@ fn same(entry: Entry, memory: &mut [u8], store: &mut [u8]) -> bool {
         9 => generation(entry, store),
         10 => guest_write(entry, memory, store),
         11 => whole(entry, memory, store),
+        12 => notices(entry, store),
         _ => false,
     }
 }
@@ -276,7 +303,7 @@ fn main() {
     input = replay(b"words ", 2305, input, &mut memory, &mut store);
     input = replay(b"blocks ", 193, input, &mut memory, &mut store);
     input = replay(b"alu ", 1098, input, &mut memory, &mut store);
-    input = replay(b"cache ", 1956, input, &mut memory, &mut store);
+    input = replay(b"cache ", 1951, input, &mut memory, &mut store);
     // Any one byte that was changed, left out or added changes this.
     io::write_all(STDOUT_FILENO, b"input ");
     io::print_decimal(STDOUT_FILENO, next(input).input);

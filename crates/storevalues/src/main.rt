@@ -1,5 +1,5 @@
-// The store's lengths and values (docs/FORMATS.md, Values), run through the calls. Each line shows a call's number and value; of a notice and a write
-// the slots examined and the places dropped.
+// The store's lengths and values (docs/FORMATS.md, Values), run through the calls. Each line shows a call's number and value; of a notice, a list of
+// them and a write the slots examined and the places dropped.
 use cache::ReportAnswer;
 use libc::STDOUT_FILENO;
 use store::Geometry;
@@ -67,6 +67,10 @@ fn notice(store: &mut [u8], address: u64) {
     reported(cache::notice(store, address));
 }
 
+fn notices(store: &mut [u8], addresses: &[u64]) {
+    reported(notices::notices(store, addresses));
+}
+
 fn write(store: &mut [u8], memory: &mut [u8], address: u64, n: u64) {
     reported(write::guest_write(store, memory, address, n, 0x1122_3344_5566_7788));
 }
@@ -117,6 +121,24 @@ fn displaced_by_another_page() {
     notice(&mut store, 0x10);
     lookup(&store, 0x1010);
     notice(&mut store, 0x1010);
+}
+
+// Lists of notices: a page with a block, one without, the first again; then nothing is left, in another order too. With blocks on both pages an
+// empty list, and a list that begins behind memory.
+fn lists() {
+    let mut store = [0u8; 4200];
+    line(cache::make(&mut store, 0, 2, 0, 2).number(), 0);
+    insert(&mut store, 0x10);
+    notices(&mut store, &[0x10, 0x1000, 0xfff]);
+    notices(&mut store, &[0x1000, 0xfff, 0x10]);
+    lookup(&store, 0x10);
+    insert(&mut store, 0x10);
+    insert(&mut store, 0x1012);
+    notices(&mut store, &[]);
+    lookup(&store, 0x10);
+    notices(&mut store, &[0x2000, 0x1fff, 0xfff]);
+    lookup(&store, 0x10);
+    lookup(&store, 0x1012);
 }
 
 // Outside memory, a wrong size, a write past the end and one at the top of all addresses.
@@ -174,6 +196,8 @@ fn unknown_reading() {
     lookup(&store, 0);
     insert(&mut store, 0);
     notice(&mut store, 0);
+    notices(&mut store, &[0, 0x1000]);
+    notices(&mut store, &[]);
     line(cache::flush(&mut store).number(), 0);
     generation(&store);
     write(&mut store, &mut memory, 0, 8);
@@ -194,6 +218,7 @@ fn main() {
     pages();
     displaced();
     displaced_by_another_page();
+    lists();
     refused();
     no_store();
     made_in(0);

@@ -101,11 +101,31 @@ enum Deed {
     Insert,
     Hit,
     Miss,
-    NoticeUnmarked,
-    NoticeMarked,
+    /// Of pages that are marked or not, with a call for each address or one for a list of them.
+    Notice {
+        marked: bool,
+        listed: bool,
+    },
     Flush,
     Make,
 }
+
+const NOTICE_UNMARKED: Deed = Deed::Notice {
+    marked: false,
+    listed: false,
+};
+const NOTICE_MARKED: Deed = Deed::Notice {
+    marked: true,
+    listed: false,
+};
+const LIST_UNMARKED: Deed = Deed::Notice {
+    marked: false,
+    listed: true,
+};
+const LIST_MARKED: Deed = Deed::Notice {
+    marked: true,
+    listed: true,
+};
 
 /// Blocks of an image with a cache on each side: the original's, and ours with 2^e slots.
 struct Cache {
@@ -125,6 +145,9 @@ struct Cache {
 impl Cache {
     /// Few enough that their records stay near.
     const BLOCKS: usize = 256;
+    /// How many addresses a list has, and how many lists of unmarked pages a pass: one is too short for the clock.
+    const LIST: usize = 64;
+    const LISTS: usize = 64;
 
     fn new(deed: Deed, e: u64, image: &[u8]) -> Self {
         let image = Image::new(image);
@@ -137,14 +160,19 @@ impl Cache {
             .copied()
             .filter(|&start| match deed {
                 // One block to a page.
-                Deed::NoticeMarked => !std::mem::replace(&mut pages[start as usize / PAGE], true),
+                NOTICE_MARKED | LIST_UNMARKED | LIST_MARKED => {
+                    !std::mem::replace(&mut pages[start as usize / PAGE], true)
+                }
                 // One block to a slot; the image's first half, so that what is missed has the same slot in the second.
                 _ => {
                     start < image.bytes.len() as u64 / 2
                         && !std::mem::replace(&mut slots[start as usize / 2 % (1 << e)], true)
                 }
             })
-            .take(Self::BLOCKS)
+            .take(match deed {
+                Deed::Notice { listed: true, .. } => Self::LIST,
+                _ => Self::BLOCKS,
+            })
             .collect();
         let records = addresses
             .iter()
@@ -216,6 +244,28 @@ impl Cache {
         }
     }
 
+    /// How often a pass goes over the addresses.
+    fn times(&self) -> usize {
+        match self.deed {
+            LIST_UNMARKED => Self::LISTS,
+            _ => 1,
+        }
+    }
+
+    fn notice_all(&mut self) -> u64 {
+        let (at, len) = (self.store.as_mut_ptr(), self.store.len());
+        self.addresses
+            .iter()
+            .map(|&address| unsafe { door::uv_notice(at, len, address) }.dropped)
+            .sum()
+    }
+
+    fn notice_list(&mut self) -> u64 {
+        let (at, len) = (self.store.as_mut_ptr(), self.store.len());
+        let list = &self.addresses;
+        unsafe { door::uv_notices(at, len, list.as_ptr(), list.len()) }.dropped
+    }
+
     /// The addresses of the deed.
     fn asked(&self) -> impl Iterator<Item = u64> + use<'_> {
         let aside = match self.deed {
@@ -246,21 +296,21 @@ impl Calls for Cache {
     fn len(&self, _: Side) -> usize {
         match self.deed {
             Deed::Flush | Deed::Make => 1,
-            _ => self.addresses.len(),
+            _ => self.addresses.len() * self.times(),
         }
     }
 
     fn prepare(&mut self, side: Side) {
         match (self.deed, side) {
             (Deed::Insert, Side::Rust) => self.form_all(),
-            (Deed::Hit | Deed::Miss | Deed::NoticeMarked | Deed::Flush, Side::Rust) => {
+            (Deed::Insert | NOTICE_UNMARKED | LIST_UNMARKED | Deed::Make, _) => {}
+            (_, Side::Rust) => {
                 self.form_all();
                 self.rust_insert_all();
             }
-            (Deed::Hit | Deed::Miss | Deed::NoticeMarked | Deed::Flush, _) => {
+            _ => {
                 self.insert_all();
             }
-            _ => {}
         }
     }
 
@@ -279,21 +329,16 @@ impl Calls for Cache {
                     black_box(unsafe { door::uv_lookup(at, len, address) }).value
                 })
                 .sum(),
-            (Deed::NoticeUnmarked | Deed::NoticeMarked, Side::Rust) => {
-                for &address in &self.addresses {
-                    rust_notice(&mut self.rust, address);
+            (Deed::Notice { .. }, Side::Rust) => {
+                for _ in 0..self.times() {
+                    for &address in &self.addresses {
+                        rust_notice(&mut self.rust, address);
+                    }
                 }
                 0
             }
-            (Deed::NoticeUnmarked | Deed::NoticeMarked, Side::Ours | Side::Manual) => {
-                let (at, len) = (self.store.as_mut_ptr(), self.store.len());
-                self.addresses
-                    .iter()
-                    .map(|&address| unsafe { door::uv_notice(at, len, address) }.dropped)
-                    .sum()
-            }
             // One load per place at the places' stride.
-            (Deed::NoticeUnmarked | Deed::NoticeMarked, Side::Floor) => {
+            (Deed::Notice { .. }, Side::Floor) => {
                 let front = self.store.len() - (RECORD << self.e);
                 (0..self.addresses.len())
                     .map(|_| {
@@ -304,22 +349,26 @@ impl Calls for Cache {
                     })
                     .fold(0, u64::wrapping_add)
             }
+            (Deed::Notice { listed: true, .. }, Side::Ours) => {
+                (0..self.times()).map(|_| self.notice_list()).sum()
+            }
+            (Deed::Notice { .. }, _) => (0..self.times()).map(|_| self.notice_all()).sum(),
             (Deed::Flush, Side::Rust) => {
                 self.rust.flush_all();
                 0
             }
-            (Deed::Flush, Side::Ours | Side::Manual) => unsafe {
-                door::uv_flush(self.store.as_mut_ptr(), self.store.len())
-            },
             (Deed::Make, Side::Rust) => {
                 self.rust = BlockCache::new();
                 0
             }
-            (Deed::Make, Side::Ours | Side::Manual) => self.make(),
             (Deed::Flush | Deed::Make, Side::Floor) => {
                 black_box(&mut self.store[..]).fill(0);
                 0
             }
+            (Deed::Flush, _) => unsafe {
+                door::uv_flush(self.store.as_mut_ptr(), self.store.len())
+            },
+            (Deed::Make, _) => self.make(),
         }
     }
 
@@ -333,6 +382,7 @@ impl Calls for Cache {
 
 const RUST: &[Side] = &[Side::Rust, Side::Ours];
 const FLOOR: &[Side] = &[Side::Rust, Side::Floor, Side::Ours];
+const LIST: &[Side] = &[Side::Rust, Side::Ours, Side::Singly];
 
 /// The rows of forming, and of the cache at the original's slot count and a smaller one.
 pub fn rows(image: &[u8]) -> Vec<Work> {
@@ -355,13 +405,19 @@ pub fn rows(image: &[u8]) -> Vec<Work> {
         over: Side::Floor,
         most: 1.3,
     });
+    let half = Some(Target {
+        over: Side::Singly,
+        most: 0.5,
+    });
     for e in [14, 8] {
         for (name, deed, sides, target) in [
             ("insert a formed block", Deed::Insert, RUST, rust(1.0)),
             ("lookup, a hit", Deed::Hit, RUST, rust(0.6)),
             ("lookup, a miss", Deed::Miss, RUST, None),
-            ("notice, page unmarked", Deed::NoticeUnmarked, RUST, None),
-            ("notice, page marked", Deed::NoticeMarked, FLOOR, floor),
+            ("notice, page unmarked", NOTICE_UNMARKED, RUST, None),
+            ("notice, page marked", NOTICE_MARKED, FLOOR, floor),
+            ("list of 64, pages unmarked", LIST_UNMARKED, LIST, half),
+            ("list of 64, pages marked", LIST_MARKED, LIST, None),
             ("flush", Deed::Flush, FLOOR, floor),
             ("make", Deed::Make, FLOOR, floor),
         ] {

@@ -17,7 +17,7 @@ const USAGE: &str = "\
 usage: bench [--instructions] [--image FILE].. [ROW]..
 
 Times Unvriscol's C functions and the original Rust's side by side: nanoseconds per call, of the best of many rounds. Ours is in the Rust reading;
-where a call has a reading, ours in the manual's stands beside it.
+where a call has a reading, ours in the manual's stands beside it. A list of notices is timed per address, and beside it ours with a call for each.
 
   --instructions  count instructions by callgrind instead, which do not depend on the machine's load (needs valgrind)
   --image FILE    the words, halfwords and blocks of a file, repeated to 64 pages or more, in place of made ones; may be given often, for a table each
@@ -95,15 +95,15 @@ fn table(plan: &Plan, image: Option<&Given>) -> Result<(), String> {
         "ns"
     };
     println!(
-        "| {unit} per call | Rust | floor | ours | ours over Rust | ours over floor | target (time) | ours, manual's | over ours |"
+        "| {unit} per call | Rust | floor | ours | ours over Rust | ours over floor | target (time) | ours, manual's | over ours | ours, singly | ours over that |"
     );
-    println!("|---|---|---|---|---|---|---|---|---|");
+    println!("|---|---|---|---|---|---|---|---|---|---|---|");
     for (at, work) in rows.iter_mut().enumerate() {
         if !plan.rows.is_empty() && !plan.rows.iter().any(|row| work.name.contains(row)) {
             continue;
         }
         if work.calls.len(Side::Ours) == 0 {
-            println!("| {} | | | | | | none in the image | | |", work.name);
+            println!("| {} | | | | | | none in the image | | | | |", work.name);
             continue;
         }
         let costs = if plan.instructions {
@@ -132,17 +132,17 @@ fn line(work: &Work, costs: Costs) -> String {
     };
     let target = match work.target {
         Some(Target { over, most }) => {
-            let over = if over == Side::Floor {
-                " of the floor"
-            } else {
-                ""
+            let over = match over {
+                Side::Floor => " of the floor",
+                Side::Singly => " of single calls",
+                _ => "",
             };
             format!("{most:.2}{over}")
         }
         None => String::new(),
     };
     format!(
-        "| {} | {} | {} | {} | {} | {} | {target} | {} | {} |",
+        "| {} | {} | {} | {} | {} | {} | {target} | {} | {} | {} | {} |",
         work.name,
         each(Side::Rust),
         each(Side::Floor),
@@ -150,7 +150,9 @@ fn line(work: &Work, costs: Costs) -> String {
         over(Side::Ours, Side::Rust),
         over(Side::Ours, Side::Floor),
         each(Side::Manual),
-        over(Side::Manual, Side::Ours)
+        over(Side::Manual, Side::Ours),
+        each(Side::Singly),
+        over(Side::Ours, Side::Singly)
     )
 }
 

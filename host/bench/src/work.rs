@@ -15,11 +15,19 @@ pub enum Side {
     Ours,
     /// Ours, in the manual's reading.
     Manual,
+    /// Ours, with a call for each address of a list.
+    Singly,
 }
 
 impl Side {
-    pub const COUNT: usize = 4;
-    pub const ALL: [Self; Self::COUNT] = [Self::Rust, Self::Floor, Self::Ours, Self::Manual];
+    pub const COUNT: usize = 5;
+    pub const ALL: [Self; Self::COUNT] = [
+        Self::Rust,
+        Self::Floor,
+        Self::Ours,
+        Self::Manual,
+        Self::Singly,
+    ];
 
     /// The reading of our calls.
     pub fn reading(self) -> Reading {

@@ -1,5 +1,8 @@
 //! Histories of cache calls: against the model at every slot count, with refusals and stores that were scribbled on; and against the original's
 //! `BlockCache` at its own.
+//!
+//! A list of notices is held against single ones, one after the other, in the model and in the original. In the histories by the model its members in
+//! another order, and of these the first of each page alone, are lent with a copy of the store: it is to become the same, with the same report.
 use crate::decode::NO_READING;
 use crate::form::record_of;
 use crate::model::{self, OP, OPS, PAGE, RECORD, Report, Shape};
@@ -9,6 +12,7 @@ use oracle::bus::Plain;
 use oracle::made;
 use oracle::mmu::Mmu;
 use oracle::random::Random;
+use std::collections::HashSet;
 use unvriscol::door;
 
 /// What a call answers: the number, and what stands beside it.
@@ -70,6 +74,7 @@ pub enum Call {
     Lookup(u64),
     Insert(u64, Vec<u8>),
     Notice(u64),
+    Notices(Vec<u64>),
     Flush,
     Generation,
     Write { address: u64, size: u64, value: u64 },
@@ -92,6 +97,7 @@ impl Call {
                     door::uv_insert(at, len, *address, record.as_ptr(), record.len()).into()
                 }
                 Self::Notice(address) => door::uv_notice(at, len, *address).into(),
+                Self::Notices(list) => door::uv_notices(at, len, list.as_ptr(), list.len()).into(),
                 Self::Flush => door::uv_flush(at, len).into(),
                 Self::Generation => door::uv_generation(at, len).into(),
                 Self::Write {
@@ -120,6 +126,7 @@ impl Call {
             Self::Flush => model::flush(store),
             Self::Generation => model::generation(store),
             Self::Notice(address) => return Answer::reported(model::notice(store, *address)),
+            Self::Notices(list) => return Answer::reported(model::notices(store, list)),
             Self::Write {
                 address,
                 size,
@@ -311,6 +318,32 @@ impl Draw {
         record
     }
 
+    /// A list of notices: none, one, a few or many, with repeats, in no order.
+    fn list(&mut self) -> Vec<u64> {
+        let len = match self.random.below(8) {
+            0 => 0,
+            1 => 1,
+            2..7 => 2 + self.random.below(7),
+            _ => 64 + self.random.below(64),
+        };
+        let mut list = Vec::new();
+        for _ in 0..len {
+            let address = match self.random.below(8) {
+                0 => u64::MAX - self.random.below(2 * PAGE),
+                1 if !list.is_empty() => self.one(&list),
+                _ => self.address(),
+            };
+            list.push(address);
+        }
+        list
+    }
+
+    fn shuffle(&mut self, list: &mut [u64]) {
+        for end in (1..list.len()).rev() {
+            list.swap(end, self.random.below(end as u64 + 1) as usize);
+        }
+    }
+
     fn call(&mut self) -> Call {
         match self.random.below(100) {
             0..35 => {
@@ -326,7 +359,8 @@ impl Draw {
                 Call::Insert(address, record)
             }
             35..65 => Call::Lookup(self.address()),
-            65..77 => Call::Notice(self.address()),
+            65..74 => Call::Notice(self.address()),
+            74..77 => Call::Notices(self.list()),
             77..93 => {
                 let mut address = self.address();
                 if self.random.below(3) == 0 {
@@ -431,10 +465,25 @@ fn history(shape: Shape, calls: u64, scribbled: bool, mut random: Random, tally:
             sound = None;
         }
         let expected = call.model(model.store.bytes(), model.memory.bytes());
+        if let Call::Notices(list) = &call {
+            let mut other = list.clone();
+            draw.shuffle(&mut other);
+            let mut pages = HashSet::new();
+            let first_of_page = |address: &u64| pages.insert(address / PAGE);
+            let once = other.iter().copied().filter(first_of_page).collect();
+            for other in [other, once].map(Call::Notices) {
+                let mut store = ours.store.clone();
+                let answer = other.ours(store.bytes(), &mut []);
+                tally.expect(answer == expected && store == model.store, || {
+                    format!("{shape:x?}, call {step}, {other:x?} for {call:x?}: the model gives {expected:?}, ours {answer:?}")
+                });
+            }
+        }
         let lent = call.clone();
         let answer = lent.ours(ours.store.bytes(), ours.memory.bytes());
         let kept = match (&call, &lent) {
             (Call::Insert(_, before), Call::Insert(_, after)) => before == after,
+            (Call::Notices(before), Call::Notices(after)) => before == after,
             _ => true,
         };
         tally.expects(expected.number());
@@ -495,7 +544,8 @@ pub fn histories(plan: &Plan, tally: &mut Tally) {
     }
 }
 
-/// What the original does by calling `notify_store`, which says nothing: what it examines goes by the pages' marks, and what it drops is counted.
+/// What the original does by calling `notify_store`, which says nothing: what it examines goes by the marks of the pages, each given once, and what it
+/// drops is counted.
 pub fn reported(
     rust: &mut BlockCache,
     slots: u64,
@@ -510,6 +560,16 @@ pub fn reported(
         examined,
         dropped: (before - block::live(rust)) as u64,
     }
+}
+
+/// What the original does by calling `notify_store` for one address after the other, summed.
+pub fn all_reported(rust: &mut BlockCache, slots: u64, addresses: &[u64]) -> Report {
+    let mut sum = Report::default();
+    for &address in addresses {
+        let notice = |rust: &mut BlockCache| rust.notify_store(address);
+        sum += reported(rust, slots, &[address / PAGE], notice);
+    }
+    sum
 }
 
 /// The pages of a write, counted from address 0.
@@ -563,10 +623,9 @@ pub fn original(plan: &Plan, tally: &mut Tally) {
             let slots = block::SLOTS as u64;
             let expected = match &call {
                 Call::Notice(address) => {
-                    let notice = |rust: &mut BlockCache| rust.notify_store(*address);
-                    let report = reported(&mut rust, slots, &[address / PAGE], notice);
-                    Answer::reported(Ok(report))
+                    Answer::reported(Ok(all_reported(&mut rust, slots, &[*address])))
                 }
+                Call::Notices(list) => Answer::reported(Ok(all_reported(&mut rust, slots, list))),
                 Call::Write {
                     address,
                     size,

@@ -8,11 +8,18 @@ pub const RECORD: usize = 1040;
 
 type Answer = Result<u64, u64>;
 
-/// What a notice or a guest write did: the slots examined and the places emptied.
+/// What a notice, a list of them or a guest write did: the slots examined and the places emptied.
 #[derive(Clone, Copy, Default)]
 pub struct Report {
     pub examined: u64,
     pub dropped: u64,
+}
+
+impl std::ops::AddAssign for Report {
+    fn add_assign(&mut self, other: Self) {
+        self.examined += other.examined;
+        self.dropped += other.dropped;
+    }
 }
 
 /// What a store's header says: the reading, the exponent of the slot count, the memory's base and its pages.
@@ -212,6 +219,16 @@ pub fn notice(store: &mut [u8], address: u64) -> Result<Report, u64> {
     Ok(report)
 }
 
+/// One notice after the other, each by the store that those before it left. The header is checked for an empty list too.
+pub fn notices(store: &mut [u8], addresses: &[u64]) -> Result<Report, u64> {
+    opened(store)?;
+    let mut sum = Report::default();
+    for &address in addresses {
+        sum += notice(store, address)?;
+    }
+    Ok(sum)
+}
+
 pub fn flush(store: &mut [u8]) -> Answer {
     let shape = opened(store)?;
     empty_all(store, shape);
@@ -246,9 +263,7 @@ pub fn guest_write(
     }
     let mut sum = report(store, shape, address);
     if last / PAGE != address / PAGE {
-        let second = report(store, shape, last);
-        sum.examined += second.examined;
-        sum.dropped += second.dropped;
+        sum += report(store, shape, last);
     }
     // The second does nothing where it is the same page.
     evict(store, shape, address);

@@ -1,11 +1,13 @@
 //! Writes down the Rust's own answers for crates/replay, and beside them the manual's as docs/DIFFERENCES.md tells them. Its program makes the same
 //! calls without any Rust and counts the answers that are the same. `--replay crates/replay` writes what the program reads, `stdin`, and what it is to print, `stdout`.
 //!
-//! First 16 pages of memory, then entries of 40 bytes: tag (1), number (1), a small argument (2), digest (4), two arguments, a value, which of a notice
-//! and a write is the slots examined, and beside it the places dropped (8 each). The reading is the small argument of a run and of an insertion, and
-//! the value of Make.
+//! First 16 pages of memory, then entries of 40 bytes: tag (1), number (1), a small argument (2), digest (4), two arguments, a value, which of a notice,
+//! a list of them and a write is the slots examined, and beside it the places dropped (8 each). The reading is the small argument of a run and of an
+//! insertion, and the value of Make.
 //! A run is 128 calls with one digest over each call's number and lent bytes, which are 170 beforehand.
-use crate::cache::{pages_of, reported, store_of};
+//! A list of notices is not written out: the small argument is its length, at most 64, and address i of it is the first argument and
+//! (i * the second) mod 2^17 behind, mod 2^64.
+use crate::cache::{all_reported, pages_of, reported, store_of};
 use crate::form::{block_of, record_of};
 use crate::model::{PAGE, RECORD, Report, Shape};
 use crate::{alu, manual, record};
@@ -68,6 +70,7 @@ enum Tag {
     Generation,
     Write,
     Whole,
+    Notices,
 }
 
 struct Entry {
@@ -241,6 +244,32 @@ fn alu(random: &mut Random) -> Vec<Entry> {
     entries
 }
 
+/// A list of notices, from an address on, or from one before memory or at the top of all addresses.
+fn notices(rust: &mut BlockCache, address: u64, random: &mut Random) -> Entry {
+    let small = [0, 1, 2, 5, 64][random.below(5) as usize];
+    let a = match random.below(4) {
+        0 => SHAPE.base - PAGE * random.below(4),
+        1 => u64::MAX - random.below(PAGE),
+        _ => address,
+    };
+    // In one page, in each or in every third on the way up or down, and in no order.
+    let b = match random.below(4) {
+        0 => random.below(4),
+        1 => PAGE,
+        2 => (3 * PAGE).wrapping_neg(),
+        _ => random.next(),
+    };
+    let list: Vec<u64> = (0..u64::from(small))
+        .map(|i| a.wrapping_add(i.wrapping_mul(b) % (2 * PAGES * PAGE)))
+        .collect();
+    Entry {
+        small,
+        a,
+        b,
+        ..Entry::reported(Tag::Notices, all_reported(rust, SHAPE.slots(), &list))
+    }
+}
+
 /// Histories of the original's cache, each from a new one on and in one reading, with the whole store and memory at times.
 fn histories(bus: &mut Plain, random: &mut Random) -> Vec<Entry> {
     let mut entries = Vec::new();
@@ -287,10 +316,12 @@ fn histories(bus: &mut Plain, random: &mut Random) -> Vec<Entry> {
                         ..Entry::new(Tag::Lookup)
                     },
                 },
-                75..83 => {
-                    let notice = |rust: &mut BlockCache| rust.notify_store(a);
-                    let report = reported(&mut rust, SHAPE.slots(), &[a / PAGE], notice);
-                    Entry::reported(Tag::Notice, report)
+                75..80 => {
+                    Entry::reported(Tag::Notice, all_reported(&mut rust, SHAPE.slots(), &[a]))
+                }
+                80..83 => {
+                    entries.push(notices(&mut rust, a, random));
+                    continue;
                 }
                 83..94 => {
                     let size = [1, 2, 4, 8][random.below(4) as usize];

@@ -67,6 +67,15 @@ fn cache(random: &mut Random, tally: &mut Tally) {
         // Sixteen pages in two halves that share slots; few places on each.
         let address = base + 4096 * random.below(16) + random.below(48);
         let same = match random.below(8) {
+            0 if random.below(4) == 0 => {
+                // Some of the pages, a second one twice.
+                let addresses = [address, address ^ 4096, base, address ^ 4097];
+                for address in addresses {
+                    original.notify_store(address);
+                }
+                ours.notice_all(&addresses);
+                original.code_generation() == ours.code_generation()
+            }
             0 => {
                 original.notify_store(address);
                 ours.notify_store(address);

@@ -17,7 +17,7 @@ impl Answer {
     }
 }
 
-/// A number, and beside it what a notice or a guest write did: zeros at every number but 0.
+/// A number, and beside it what a notice, a list of them or a guest write did: zeros at every number but 0.
 #[repr(C)]
 #[derive(Clone, Copy, Debug, PartialEq, Eq)]
 pub struct NumberedReport {
@@ -82,6 +82,14 @@ unsafe extern "C" {
     /// # Safety
     /// As for [`uv_form`].
     pub fn uv_notice(store: *mut u8, store_len: usize, address: u64) -> NumberedReport;
+    /// # Safety
+    /// As for [`uv_form`], where `addresses` points at `count` numbers and is aligned for them.
+    pub fn uv_notices(
+        store: *mut u8,
+        store_len: usize,
+        addresses: *const u64,
+        count: usize,
+    ) -> NumberedReport;
     /// # Safety
     /// As for [`uv_form`].
     pub fn uv_flush(store: *mut u8, store_len: usize) -> u64;

@@ -11,7 +11,7 @@ pub struct Store<B = Box<[u8]>> {
     bytes: B,
 }
 
-/// What a notice or a guest write did.
+/// What a notice, a list of them or a guest write did.
 #[derive(Clone, Copy, Debug, Default, PartialEq, Eq)]
 pub struct Report {
     /// Slots that were looked at: all of them for each page that may have had blocks.
@@ -183,6 +183,37 @@ impl<B: AsRef<[u8]> + AsMut<[u8]>> Store<B> {
             .expect(KEPT)
     }
 
+    /// Drops the blocks of the addresses' pages, as [`Store::notice`] of one address after the other, and reports the sums; the header is checked once
+    /// for all. Order and repeats change nothing, and an empty list does nothing.
+    ///
+    /// ```
+    /// use unvriscol::{Error, Reading, Report, Store};
+    ///
+    /// let memory = [0x01, 0x00].repeat(4096); // two pages of c.nop
+    /// let mut blocks = Store::new(Reading::Rust, 2, 0, 2)?; // 4 slots
+    /// for address in [0, 4098] {
+    ///     blocks.insert(address, blocks.form(&memory, address)?);
+    /// }
+    /// let mut singly = blocks.clone();
+    ///
+    /// // Both pages, one of them twice, and an address outside memory.
+    /// let report = blocks.notice_all(&[8191, 0, 8192, 4096]);
+    /// assert_eq!(report, Report { examined: 8, dropped: 2 });
+    ///
+    /// assert_eq!(report, singly.notice(0) + singly.notice(4096));
+    /// assert_eq!(blocks.as_bytes(), singly.as_bytes());
+    /// # Ok::<(), Error>(())
+    /// ```
+    #[inline]
+    pub fn notice_all(&mut self, addresses: &[u64]) -> Report {
+        let bytes = self.bytes.as_mut();
+        let (at, len) = (bytes.as_mut_ptr(), bytes.len());
+        // SAFETY: as in `make`.
+        unsafe { door::uv_notices(at, len, addresses.as_ptr(), addresses.len()) }
+            .checked()
+            .expect(KEPT)
+    }
+
     /// Writes the low bytes of a value to the guest's memory, 1, 2, 4 or 8 of them, and drops the blocks of each page that it touches, which it reports
     /// together. [`Error::Geometry`] where the memory is not as long as the store's, [`Error::WriteSize`], [`Error::OutsideMemory`].
     #[inline]
@@ -306,6 +337,30 @@ mod tests {
         store.flush_all();
         assert_eq!(store.find(BASE), Err(Error::Miss));
         assert_eq!(store.code_generation(), 4);
+    }
+
+    #[test]
+    fn a_list_is_its_notices() {
+        let memory = memory();
+        let mut store = BlockCache::new(2, BASE, 2).unwrap();
+        for at in [BASE, BASE + 4100] {
+            step(&mut store, &mut (&memory[..], BASE), at);
+        }
+        let lists: [&[u64]; 5] = [
+            &[],
+            &[BASE],
+            &[BASE + 4096],
+            &[BASE + 8192, BASE + 1, BASE],
+            &[BASE + 8191, 0, BASE, u64::MAX, BASE + 4096, BASE + 8191],
+        ];
+        for list in lists {
+            let (mut listed, mut singly) = (store.clone(), store.clone());
+            let report = listed.notice_all(list);
+            let each = list.iter().map(|&address| singly.notice(address));
+            let sum = each.fold(Report::default(), std::ops::Add::add);
+            assert_eq!(report, sum, "{list:x?}");
+            assert_eq!(listed.as_bytes(), singly.as_bytes(), "{list:x?}");
+        }
     }
 
     #[test]

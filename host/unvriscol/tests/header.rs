@@ -405,9 +405,63 @@ fn functions(text: &str) -> Vec<&str> {
 fn the_functions() {
     let rattle = read("crates/unvriscol/src/lib.rt");
     let proved = functions(&rattle);
-    assert_eq!(proved.len(), 11);
+    assert_eq!(proved.len(), 12);
     assert_eq!(functions(&Header::new().text), proved);
     assert_eq!(functions(&read("host/unvriscol/src/door.rs")), proved);
+}
+
+/// The parameters of a function that a text declares.
+fn parameters<'a>(text: &'a str, name: &str) -> Vec<&'a str> {
+    let (_, rest) = text.split_once(&format!(" uv_{name}(")).expect(name);
+    let (inside, _) = rest.split_once(')').expect(name);
+    let each = inside.split(',').map(str::trim);
+    each.filter(|parameter| !parameter.is_empty()).collect()
+}
+
+#[test]
+fn what_they_take() {
+    let rattle = read("crates/unvriscol/src/lib.rt");
+    let rust = read("host/unvriscol/src/door.rs");
+    let header = Header::new().text;
+    // A slice passes as pointer and count.
+    let types: [(&str, &[(&str, &str)]); 6] = [
+        ("u16", &[("u16", "uint16_t")]),
+        ("u32", &[("u32", "uint32_t")]),
+        ("u64", &[("u64", "uint64_t")]),
+        (
+            "&mut [u8]",
+            &[("*mut u8", "uint8_t *"), ("usize", "size_t")],
+        ),
+        (
+            "&[u8]",
+            &[("*const u8", "const uint8_t *"), ("usize", "size_t")],
+        ),
+        (
+            "&[u64]",
+            &[("*const u64", "const uint64_t *"), ("usize", "size_t")],
+        ),
+    ];
+    for name in functions(&rattle) {
+        let kind = |parameter: &str| parameter.split_once(": ").expect(name).1.to_owned();
+        let expected: Vec<(String, String)> = parameters(&rattle, name)
+            .into_iter()
+            .flat_map(|parameter| {
+                let proved = kind(parameter);
+                let known = types.iter().find(|(rattle, _)| *rattle == proved);
+                known.unwrap_or_else(|| panic!("{name}: {proved}")).1
+            })
+            .map(|(here, c)| (here.to_string(), c.to_string()))
+            .collect();
+        let here = parameters(&rust, name).into_iter().map(kind);
+        let in_c = parameters(&header, name).into_iter().map(|parameter| {
+            let behind = |c: char| c.is_alphanumeric() || c == '_';
+            parameter.trim_end_matches(behind).trim_end().to_owned()
+        });
+        let (here, in_c): (Vec<_>, Vec<_>) = (here.collect(), in_c.collect());
+        let (expected_here, expected_in_c): (Vec<_>, Vec<_>) = expected.into_iter().unzip();
+        assert_eq!(here, expected_here, "{name}");
+        assert_eq!(in_c, expected_in_c, "{name}");
+    }
 }
 
 /// What each function of a text in Rattle or Rust returns.

@@ -1,5 +1,5 @@
-//! What include/unvriscol.h says of lent buffers: with length 0 a pointer may be NULL, and none has to be aligned.
-use std::ptr::{null, null_mut};
+//! What include/unvriscol.h says of lent buffers: with length or count 0 a pointer may be NULL, and bytes need no alignment.
+use std::ptr::{NonNull, null, null_mut};
 use unvriscol::door::{self, Answer, NumberedReport};
 use unvriscol::{Block, DecodedInsn, Reading, Report, Store, decode_word_into, store_len};
 
@@ -36,6 +36,11 @@ fn null_with_length_0() {
         assert_eq!(door::uv_insert(lent, 0, BASE, none, 0), 1);
         assert_eq!(door::uv_insert(at, len, BASE, none, 0), 6);
         assert_eq!(door::uv_notice(lent, 0, BASE), nothing_done(1));
+        for nowhere in [null(), NonNull::dangling().as_ptr()] {
+            assert_eq!(door::uv_notices(lent, 0, nowhere, 0), nothing_done(1));
+            assert_eq!(door::uv_notices(at, len, nowhere, 0), nothing_done(0));
+        }
+        assert_eq!(door::uv_notices(lent, 0, &BASE, 1), nothing_done(1));
         assert_eq!(door::uv_flush(lent, 0), 1);
         assert_eq!(door::uv_generation(none, 0), refused(1));
         let (bytes, size) = (memory.as_mut_ptr(), memory.len());
@@ -77,6 +82,8 @@ fn calls(shift: usize) -> [Vec<u8>; 4] {
     assert_eq!(crossing, Ok(one_dropped));
     store.put(BASE, record).unwrap();
     assert_eq!(store.notice(BASE), one_dropped);
+    store.put(BASE, record).unwrap();
+    assert_eq!(store.notice_all(&[BASE + 4096, BASE]), one_dropped);
     store.flush_all();
     store.put(BASE, record).unwrap();
     [op, record, guest, store.into_bytes()].map(|bytes| bytes.to_vec())
@@ -86,5 +93,47 @@ fn calls(shift: usize) -> [Vec<u8>; 4] {
 fn no_alignment() {
     for shift in 1..8 {
         assert!(calls(shift) == calls(0), "{shift} bytes behind");
+    }
+}
+
+/// Of bytes that are no store a list of any length is refused, and neither they nor the list change; an empty list changes no store either.
+#[test]
+fn lists_that_change_nothing() {
+    let store = Store::new(Reading::Rust, 2, BASE, 2).unwrap();
+    let mut marked = store.clone();
+    marked.insert(BASE, marked.form(&memory(), BASE).unwrap());
+    let listed = |bytes: &mut [u8], addresses: &[u64]| {
+        let (at, len) = (bytes.as_mut_ptr(), bytes.len());
+        // SAFETY: pointer and length of one slice each, lent for the call.
+        unsafe { door::uv_notices(at, len, addresses.as_ptr(), addresses.len()) }
+    };
+    let answered = |number| NumberedReport {
+        number,
+        examined: 0,
+        dropped: 0,
+    };
+    for good in [store, marked] {
+        let good = good.into_bytes();
+        let mut bytes = good.clone();
+        assert_eq!(listed(&mut bytes, &[]), answered(0));
+        assert!(bytes == good);
+
+        let changed = |at: usize| {
+            let mut bytes = good.to_vec();
+            bytes[at] ^= 0x80;
+            bytes
+        };
+        let longer = [&good[..], &[0]].concat();
+        let shorter = good[1..].to_vec();
+        // Bytes 9 to 15 changed are another base's.
+        let header = (0..9).chain(16..24).map(changed);
+        for mut bytes in header.chain([longer, shorter, vec![]]) {
+            let before = bytes.clone();
+            for addresses in [vec![], vec![BASE], vec![BASE; 65], vec![u64::MAX, 0, BASE]] {
+                let list = addresses.clone();
+                assert_eq!(listed(&mut bytes, &list), answered(1));
+                assert!(bytes == before && list == addresses);
+            }
+        }
     }
 }
