@@ -27,7 +27,7 @@ use Rattle.cache.specs.Answers.{nothingDone, reported}
 use Rattle.cache.specs.Calls.{watched, evicted, noticedIn, reportIn, summed, noticeBy, noticeCall, flushBy, flushCall}
 use Rattle.cache.proofs.Checks.{opened-fits}
 use Rattle.cache.proofs.Reports.{summed-comm}
-use Rattle.cache.proofs.View.{fitting-evicted, bits-evicted, place-evicted, front-evicted, opened-noticed, report-apart, watched-apart}
+use Rattle.cache.proofs.View.{fitting-evicted, bits-evicted, place-evicted, front-evicted, noticed-keeps, opened-noticed, report-apart, watched-apart}
 
 -- addresses of one page are in memory together, and in the same page of it
 held-alike : (g : Geometry) → Bounded g → (x y : ℕ) → x / 4096 ≡ y / 4096 → holds g x ≡ true → holds g y ≡ true
@@ -143,11 +143,7 @@ module _ (g : Geometry) (s : List ℕ) (f : Fitting g s) (a : ℕ) where
       ∙ sym (head-of s)
 
   pub head-noticed : take 32 (noticedIn g s a) ≡ take 32 s
-  head-noticed = go (watched g s a) refl
-    where
-      go : (t : Bool) → watched g s a ≡ t → take 32 (noticedIn g s a) ≡ take 32 s
-      go true e = rw e (head-evicted (and-both (holds g a) _ e .0))
-      go false e = rw e
+  head-noticed = noticed-keeps g s a (λ z. take 32 z ≡ take 32 s) refl head-evicted
 
 -- what holds of a store, and of no store, holds of any bytes
 pub on-any-bytes : (s : List ℕ) (P : Opened → Type 0) → ((g : Geometry) → Fitting g s → P (Sound g)) → P NotAStore → P (opened s)

@@ -125,36 +125,34 @@ module _ (g : Geometry) (s : List ℕ) (f : Fitting g s) (a : ℕ) (h : holds g 
         place-put g (bumped marked) moved-fits (slotOf g a) (placeFor g rec) (slot-lt g a) l i
         ∙ ap (cond (eqb (slotOf g a) i) (placeFor g rec)) (place-bumped g marked marked-fits i ∙ place-with g s f (memoryPage g a) true in-memory i)
 
--- a notice leaves a store of the same geometry
+-- what holds of a store and of its evictions holds after a notice
+module _ (g : Geometry) (s : List ℕ) (a : ℕ) (P : List ℕ → Type 0) (before : P s) (after : holds g a ≡ true → P (evicted g s a)) where
+  pub noticed-keeps : P (noticedIn g s a)
+  noticed-keeps = go (watched g s a) refl
+    where
+      go : (t : Bool) → watched g s a ≡ t → P (noticedIn g s a)
+      go true e = rw e (after (and-both (holds g a) _ e .0))
+      go false e = rw e before
+
 module _ (g : Geometry) (s : List ℕ) (f : Fitting g s) (a : ℕ) where
   pub fitting-noticed : Fitting g (noticedIn g s a)
-  fitting-noticed = go (watched g s a) refl
-    where
-      go : (t : Bool) → watched g s a ≡ t → Fitting g (noticedIn g s a)
-      go true e = rw e (fitting-evicted g s f a (and-both (holds g a) _ e .0))
-      go false e = rw e f
+  fitting-noticed = noticed-keeps g s a (Fitting g) f (fitting-evicted g s f a)
 
   pub opened-noticed : opened (noticedIn g s a) ≡ opened s
-  opened-noticed = go (watched g s a) refl
-    where
-      go : (t : Bool) → watched g s a ≡ t → opened (noticedIn g s a) ≡ opened s
-      go true e = rw e (opened-evicted g s f a (and-both (holds g a) _ e .0))
-      go false e = rw e
+  opened-noticed = noticed-keeps g s a (λ z. opened z ≡ opened s) refl (opened-evicted g s f a)
 
--- a notice in another page finds what it would find before: a write's sum may be taken before it or on the way
-module _ (g : Geometry) (s : List ℕ) (f : Fitting g s) (a b : ℕ) (apart : a / 4096 ≡ b / 4096 → ⊥) where
-  pub report-apart : reportIn g (noticedIn g s a) b ≡ reportIn g s b
-  report-apart = go (watched g s a) refl (holds g b) refl
-    where
-      go : (t : Bool) → watched g s a ≡ t → (u : Bool) → holds g b ≡ u → reportIn g (noticedIn g s a) b ≡ reportIn g s b
-      go true e true i = rw e (evicted-apart g s f a (and-both (holds g a) _ e .0) b apart i)
-      go true e false i = rw i
-      go false e u i = rw e
+  -- a notice in another page finds what it would have found before: a write's sum may be taken before it or on the way
+  module _ (b : ℕ) (apart : a / 4096 ≡ b / 4096 → ⊥) where
+    pub report-apart : reportIn g (noticedIn g s a) b ≡ reportIn g s b
+    report-apart = noticed-keeps g s a (λ z. reportIn g z b ≡ reportIn g s b) refl (λ h. go h (holds g b) refl)
+      where
+        go : holds g a ≡ true → (t : Bool) → holds g b ≡ t → reportIn g (evicted g s a) b ≡ reportIn g s b
+        go h true i = evicted-apart g s f a h b apart i
+        go h false i = rw i
 
-  pub watched-apart : watched g (noticedIn g s a) b ≡ watched g s b
-  watched-apart = go (watched g s a) refl (holds g b) refl
-    where
-      go : (t : Bool) → watched g s a ≡ t → (u : Bool) → holds g b ≡ u → watched g (noticedIn g s a) b ≡ watched g s b
-      go true e true i = rw e (watched-evicted g s f a (and-both (holds g a) _ e .0) b apart i)
-      go true e false i = rw i
-      go false e u i = rw e
+    pub watched-apart : watched g (noticedIn g s a) b ≡ watched g s b
+    watched-apart = noticed-keeps g s a (λ z. watched g z b ≡ watched g s b) refl (λ h. go h (holds g b) refl)
+      where
+        go : holds g a ≡ true → (t : Bool) → holds g b ≡ t → watched g (evicted g s a) b ≡ watched g s b
+        go h true i = watched-evicted g s f a h b apart i
+        go h false i = rw i
