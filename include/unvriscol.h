@@ -203,9 +203,9 @@ uint64_t uv_insert(uint8_t *store, size_t store_len, uint64_t address, const uin
  * page would have hit just before. Refusal: 1. */
 uv_report uv_notice(uint8_t *store, size_t store_len, uint64_t address);
 
-/* Tell the cache of writes at so many addresses, which are only read: one notice after the other, with examined and dropped the sums. Their order and
- * repeats change nothing, neither in the store nor in the sums: addresses of one page are one notice. The header is checked once, and of an empty
- * list that is all. Refusal: 1. */
+/* Tell the cache of writes at so many addresses, after the last of them and before the next lookup: one notice after the other, with examined and
+ * dropped the sums. The list has an address in each page that the writes touched, and is only read. Order and repeats change nothing, neither in the
+ * store nor in the sums: addresses of one page are one notice. The header is checked once, and of an empty list that is all. Refusal: 1. */
 uv_report uv_notices(uint8_t *store, size_t store_len, const uint64_t *addresses, size_t count);
 
 /* Empty every place; the generation is kept. Refusal: 1. */

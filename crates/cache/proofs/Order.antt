@@ -165,13 +165,13 @@ second s a b = ap (λ (o : Opened). noticeBy o (noticeCall s a .1) b) (notice-op
 
 module _ (s : List ℕ) (a b : ℕ) where
   -- in either order the same store, and the same sums
-  pub notices-swap : noticeCall (noticeCall s a .1) b .1 ≡ noticeCall (noticeCall s b .1) a .1
-  notices-swap =
+  pub notice-swap : noticeCall (noticeCall s a .1) b .1 ≡ noticeCall (noticeCall s b .1) a .1
+  notice-swap =
       rw (second s a b, second s b a)
       (on-any-bytes s (λ o. noticeBy o (noticeBy o s a .1) b .1 ≡ noticeBy o (noticeBy o s b .1) a .1) (λ g f. noticed-comm g s f a b) refl)
 
-  pub notices-swap-sum : summed (reported (noticeCall s a .0)) (reported (noticeCall (noticeCall s a .1) b .0)) ≡ summed (reported (noticeCall s b .0)) (reported (noticeCall (noticeCall s b .1) a .0))
-  notices-swap-sum =
+  pub notice-swap-sum : summed (reported (noticeCall s a .0)) (reported (noticeCall (noticeCall s a .1) b .0)) ≡ summed (reported (noticeCall s b .0)) (reported (noticeCall (noticeCall s b .1) a .0))
+  notice-swap-sum =
       rw (second s a b, second s b a)
       (on-any-bytes s (λ o. summed (reported (noticeBy o s a .0)) (reported (noticeBy o (noticeBy o s a .1) b .0)) ≡ summed (reported (noticeBy o s b .0)) (reported (noticeBy o (noticeBy o s b .1) a .0)))
       (λ g f. report-comm g s f a b) refl)

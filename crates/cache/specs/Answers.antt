@@ -24,7 +24,7 @@ abbrev pub lookupPart : List ℕ → LookupAnswer → List ℕ
 lookupPart s (Hit at len) = part s at len
 lookupPart s (LookupRefused why) = []
 
--- of a notice and of a guest write
+-- of a notice, of a list of them, and of a guest write
 abbrev pub reportNumber : ReportAnswer → ℕ
 reportNumber (Reported r) = 0
 reportNumber (NotReported why) = refusalNumber why

@@ -33,7 +33,7 @@ pub enum LookupAnswer {
     LookupRefused(Refusal),
 }
 
-// What a notice answers, and a guest write.
+// What a notice answers, a list of them, and a guest write.
 pub enum ReportAnswer {
     Reported(Report),
     NotReported(Refusal),

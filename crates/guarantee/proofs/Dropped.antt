@@ -16,15 +16,15 @@ use Rattle.bits.proofs.Tests.{or-right}
 use Rattle.answer.specs.declared.Refusal.{Refusal}
 use Rattle.store.specs.Layout.{slotOf}
 use Rattle.store.specs.declared.Geometry.{Geometry}
+use Rattle.store.specs.declared.Opened.{Opened}
 use Rattle.store.specs.declared.Opened.the-variants.{Sound}
 use Rattle.cache.specs.Answers.{lookupNumber, reported}
-use Rattle.cache.specs.Calls.{reportIn, summed, noticeCall}
+use Rattle.cache.specs.Calls.{reportIn, summed, noticeBy, noticeCall}
 use Rattle.cache.specs.declared.Judged.{Judged}
 use Rattle.cache.specs.declared.Judged.the-variants.{Accepted, Rejected}
 use Rattle.cache.specs.declared.Report.{Report}
 use Rattle.cache.specs.declared.ReportAnswer.{ReportAnswer}
 use Rattle.cache.specs.declared.ReportAnswer.the-variants.{Reported, NotReported}
-use Rattle.cache.proofs.Checks.{opened-fits}
 use Rattle.notices.specs.Notices.{noticesCall}
 use Rattle.notices.specs.Pages.{names, reportOnce}
 use Rattle.notices.proofs.Order.{report-once}
@@ -119,14 +119,14 @@ module _ (g : Geometry) (h : List Event) (s : List ℕ) (y : Stands g h s) where
       go true = notice-drops a
       go false = ap₂ _+_ (notice-drops a) (notice-drops b)
 
-  list-drops : (list : List ℕ) → reportOnce g s list .dropped ≡ hitsOver s list
+  list-drops : (list : List ℕ) → reportOnce s list .dropped ≡ hitsOver s list
   unfolding reportOnce hitsOver
   list-drops [] = refl
   list-drops (a ∷ rest) = go (names rest (pageOf a)) refl (list-drops rest)
     where
-      go : (t : Bool) → names rest (pageOf a) ≡ t → reportOnce g s rest .dropped ≡ hitsOver s rest → reportOnce g s (a ∷ rest) .dropped ≡ hitsOver s (a ∷ rest)
+      go : (t : Bool) → names rest (pageOf a) ≡ t → reportOnce s rest .dropped ≡ hitsOver s rest → reportOnce s (a ∷ rest) .dropped ≡ hitsOver s (a ∷ rest)
       go true n ih = rw n ih
-      go false n ih = rw n (ap₂ _+_ (notice-drops a) ih)
+      go false n ih = rw n (ap₂ _+_ (ap (λ (o : Opened). droppedOf (noticeBy o s a .0)) (y .sound) ∙ notice-drops a) ih)
 
   write-drops : (m : List ℕ) (a n v : ℕ) (r : Report) → writeCall s m a n v .0 ≡ Reported r → r .dropped ≡ hitsAcross s a (a + n - 1)
   write-drops m a n v r q = go (writeJudged (Sound g) (length m) a n) refl (rw (y .sound) at q)
@@ -153,8 +153,7 @@ module _ (p : Past) (l : Lent) (start : Follows p (l .store)) (calls : List Call
   module _ (list : List ℕ) where
     pub notices-dropped-is : reported (noticesCall (run calls l .store) list .0) .dropped ≡ hitsOver (run calls l .store) list
     notices-dropped-is =
-        let y = stands p l start calls g h is in
-        rw (y .sound) (ap (λ (r : Report). r .dropped) (report-once g (run calls l .store) (opened-fits (run calls l .store) g (y .sound)) list) ∙ list-drops g h (run calls l .store) y list)
+        ap (λ (r : Report). r .dropped) (report-once (run calls l .store) list) ∙ list-drops g h (run calls l .store) (stands p l start calls g h is) list
 
     pub notices-dropped-live : 1 ≤ reported (noticesCall (run calls l .store) list .0) .dropped → HitOver (run calls l .store) list
     notices-dropped-live c = over-one (run calls l .store) list (subst (λ (k : ℕ). 1 ≤ k) notices-dropped-is c)

@@ -124,7 +124,7 @@ module _ (g : Geometry) where
       ∙ either s f two one
       ∙ absorb-all s f one two (λ page k. sym (same page) ∙ k)
 
-  -- by the store before the list: each page once
+  -- a notice in a page that a list does not name leaves what the list reports
   apart-all : (s : List ℕ) → Fitting g s → (a : ℕ) (list : List ℕ) → names list (a / 4096) ≡ false → reportAll g (noticedIn g s a) list ≡ reportAll g s list
   unfolding names reportAll
   apart-all s f a [] h = refl
@@ -135,15 +135,6 @@ module _ (g : Geometry) where
       go later true e k = absurd (true-false refl k)
       go later false e k =
           ap₂ summed (report-apart g s f a b (λ q. eqb-false (b / 4096) (a / 4096) e (sym q))) (ap (λ (z : List ℕ). reportAll g z rest) (noticed-comm g s f a b) ∙ later k)
-
-  pub report-once : (s : List ℕ) → Fitting g s → (list : List ℕ) → reportAll g s list ≡ reportOnce g s list
-  unfolding reportAll reportOnce
-  report-once s f [] = refl
-  report-once s f (a ∷ rest) = go (names rest (a / 4096)) refl (report-once s f rest)
-    where
-      go : (t : Bool) → names rest (a / 4096) ≡ t → reportAll g s rest ≡ reportOnce g s rest → reportAll g s (a ∷ rest) ≡ cond t (reportOnce g s rest) (summed (reportIn g s a) (reportOnce g s rest))
-      go true e ih = ap (λ (o : Report × List ℕ). o .0) (absorb s f a rest e) ∙ ih
-      go false e ih = ap (summed (reportIn g s a)) (apart-all s f a rest e ∙ ih)
 
 -- The laws of the call.
 module _ (s : List ℕ) where
@@ -182,7 +173,28 @@ module _ (s : List ℕ) where
       on-any-bytes s (λ o. noticesBy o s one ≡ noticesBy o s two)
       (λ g f. ap (λ (o : Report × List ℕ). (Reported (o .0), o .1)) (outcome-same g s f one two same)) refl
 
-  -- so do lists with the same members, in any order and number; and a list in another order
+  -- by the store before the list: what one notice for each of its pages reports
+  apart-report : (a : ℕ) (rest : List ℕ) → names rest (a / 4096) ≡ false → reported (noticesCall (noticeCall s a .1) rest .0) ≡ reported (noticesCall s rest .0)
+  apart-report a rest apart =
+      rw (notice-opened s a) (on-any-bytes s (λ o. reported (noticesBy o (noticeBy o s a .1) rest .0) ≡ reported (noticesBy o s rest .0)) (λ g f. apart-all g s f a rest apart) refl)
+
+  pub report-once : (list : List ℕ) → reported (noticesCall s list .0) ≡ reportOnce s list
+  unfolding names reportOnce
+  report-once [] = none-report
+  report-once (a ∷ rest) = go (names rest (a / 4096)) refl (report-once rest)
+    where
+      named-too : names rest (a / 4096) ≡ true → (page : ℕ) → names (a ∷ rest) page ≡ names rest page
+      named-too e page = again (eqb (a / 4096) page) refl
+        where
+          again : (t : Bool) → eqb (a / 4096) page ≡ t → (t || names rest page) ≡ names rest page
+          again true k = sym (ap (names rest) (sym (eqb-true (a / 4096) page k)) ∙ e)
+          again false k = refl
+
+      go : (t : Bool) → names rest (a / 4096) ≡ t → reported (noticesCall s rest .0) ≡ reportOnce s rest → reported (noticesCall s (a ∷ rest) .0) ≡ cond t (reportOnce s rest) (summed (reported (noticeCall s a .0)) (reportOnce s rest))
+      go true e ih = ap (λ r. reported (r .0)) (same-pages (a ∷ rest) rest (named-too e)) ∙ ih
+      go false e ih = next-report a rest ∙ ap (summed (reported (noticeCall s a .0))) (apart-report a rest e ∙ ih)
+
+  -- and so are lists with the same members, in any order and number, and a list in another order
   pub same-members : (one two : List ℕ) → Subset one two → Subset two one → noticesCall s one ≡ noticesCall s two
   same-members one two there back = same-pages one two (λ page. go page (names one page) refl (names two page) refl)
     where

@@ -1,12 +1,11 @@
--- The pages of a list of addresses, and what the list reports by the store before it: each page once.
+-- The pages of a list of addresses, and what notices in them report by one store: each page once.
 -- Assumes nothing.
 use Prim.Native.Nat.{ℕ, _/_}
 use mathlib.Core.Bool.{Bool, false, cond, _||_}
 use mathlib.Core.List.{List, [], _∷_}
 use lib.Dec.{eqb}
-use Rattle.store.specs.declared.Geometry.{Geometry}
-use Rattle.cache.specs.Answers.{nothingDone}
-use Rattle.cache.specs.Calls.{reportIn, summed}
+use Rattle.cache.specs.Answers.{nothingDone, reported}
+use Rattle.cache.specs.Calls.{summed, noticeCall}
 use Rattle.cache.specs.declared.Report.{Report}
 
 -- some address of the list lies in a page, which is counted from address 0
@@ -14,6 +13,7 @@ unfoldable pub names : List ℕ → ℕ → Bool
 names [] page = false
 names (a ∷ rest) page = eqb (a / 4096) page || names rest page
 
-unfoldable pub reportOnce : Geometry → List ℕ → List ℕ → Report
-reportOnce g s [] = nothingDone
-reportOnce g s (a ∷ rest) = cond (names rest (a / 4096)) (reportOnce g s rest) (summed (reportIn g s a) (reportOnce g s rest))
+-- what one notice for each of these pages reports, each by the same store
+unfoldable pub reportOnce : List ℕ → List ℕ → Report
+reportOnce s [] = nothingDone
+reportOnce s (a ∷ rest) = cond (names rest (a / 4096)) (reportOnce s rest) (summed (reported (noticeCall s a .0)) (reportOnce s rest))

@@ -8,7 +8,7 @@ use Rattle.cache.specs.declared.ReportAnswer.{ReportAnswer}
 abbrev pub both : {A : Type 0} → (A → ℕ) → (A → ℕ) → A → ℕ × ℕ
 both number value answer = (number answer, value answer)
 
--- of a notice and of a guest write: the number, the slots examined, the places dropped
+-- of a notice, of a list of them, and of a guest write: the number, the slots examined, the places dropped
 abbrev pub reportSeen : ReportAnswer → ℕ × ℕ × ℕ
 reportSeen answer = (reportNumber answer, reported answer .examined, reported answer .dropped)
 

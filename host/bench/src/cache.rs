@@ -252,7 +252,7 @@ impl Cache {
         }
     }
 
-    fn notice_all(&mut self) -> u64 {
+    fn notice_each(&mut self) -> u64 {
         let (at, len) = (self.store.as_mut_ptr(), self.store.len());
         self.addresses
             .iter()
@@ -352,7 +352,7 @@ impl Calls for Cache {
             (Deed::Notice { listed: true, .. }, Side::Ours) => {
                 (0..self.times()).map(|_| self.notice_list()).sum()
             }
-            (Deed::Notice { .. }, _) => (0..self.times()).map(|_| self.notice_all()).sum(),
+            (Deed::Notice { .. }, _) => (0..self.times()).map(|_| self.notice_each()).sum(),
             (Deed::Flush, Side::Rust) => {
                 self.rust.flush_all();
                 0

@@ -184,7 +184,8 @@ impl<B: AsRef<[u8]> + AsMut<[u8]>> Store<B> {
     }
 
     /// Drops the blocks of the addresses' pages, as [`Store::notice`] of one address after the other, and reports the sums; the header is checked once
-    /// for all. Order and repeats change nothing, and an empty list does nothing.
+    /// for all. To be told after the writes and before the next lookup, with an address in each page that they touched. Order and repeats change
+    /// nothing, and an empty list does nothing.
     ///
     /// ```
     /// use unvriscol::{Error, Reading, Report, Store};
@@ -208,7 +209,7 @@ impl<B: AsRef<[u8]> + AsMut<[u8]>> Store<B> {
     pub fn notice_all(&mut self, addresses: &[u64]) -> Report {
         let bytes = self.bytes.as_mut();
         let (at, len) = (bytes.as_mut_ptr(), bytes.len());
-        // SAFETY: as in `make`.
+        // SAFETY: as in `make`; a slice's numbers are aligned.
         unsafe { door::uv_notices(at, len, addresses.as_ptr(), addresses.len()) }
             .checked()
             .expect(KEPT)

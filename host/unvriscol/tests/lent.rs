@@ -12,16 +12,19 @@ fn memory() -> Vec<u8> {
     memory
 }
 
+fn nothing_done(number: u64) -> NumberedReport {
+    NumberedReport {
+        number,
+        examined: 0,
+        dropped: 0,
+    }
+}
+
 #[test]
 fn null_with_length_0() {
     let mut memory = memory();
     let mut store = Store::new(Reading::Rust, 2, BASE, 2).unwrap().into_bytes();
     let refused = |number| Answer { number, value: 0 };
-    let nothing_done = |number| NumberedReport {
-        number,
-        examined: 0,
-        dropped: 0,
-    };
     let (none, lent) = (null(), null_mut());
     let (at, len) = (store.as_mut_ptr(), store.len());
     // SAFETY: a NULL stands beside a length of 0, and the others are pointer and length of one buffer, lent for the call.
@@ -107,15 +110,10 @@ fn lists_that_change_nothing() {
         // SAFETY: pointer and length of one slice each, lent for the call.
         unsafe { door::uv_notices(at, len, addresses.as_ptr(), addresses.len()) }
     };
-    let answered = |number| NumberedReport {
-        number,
-        examined: 0,
-        dropped: 0,
-    };
     for good in [store, marked] {
         let good = good.into_bytes();
         let mut bytes = good.clone();
-        assert_eq!(listed(&mut bytes, &[]), answered(0));
+        assert_eq!(listed(&mut bytes, &[]), nothing_done(0));
         assert!(bytes == good);
 
         let changed = |at: usize| {
@@ -131,7 +129,7 @@ fn lists_that_change_nothing() {
             let before = bytes.clone();
             for addresses in [vec![], vec![BASE], vec![BASE; 65], vec![u64::MAX, 0, BASE]] {
                 let list = addresses.clone();
-                assert_eq!(listed(&mut bytes, &list), answered(1));
+                assert_eq!(listed(&mut bytes, &list), nothing_done(1));
                 assert!(bytes == before && list == addresses);
             }
         }
