@@ -18,6 +18,11 @@ use Rattle.store.proofs.Known.{holds-are, page-lt, slot-lt, bit-fits}
 use Rattle.store.proofs.Places.{emptied-apart, length-emptied}
 use Rattle.store.proofs.View.{length-with, opened-with, generation-with, bits-with, place-with, length-bumped, opened-bumped, generation-bumped, bits-bumped, place-bumped, length-put, opened-put, generation-put, bits-put, place-put, fitting-each, opened-each, generation-each, bits-each, front-each, place-each, front-with}
 use Rattle.cache.specs.Calls.{insertedIn, watched, evicted, noticedIn, droppedIn, reportIn}
+use Rattle.cache.specs.declared.Report.{Report}
+
+-- whether a notice finds its page's bit set, and what it reports
+abbrev found : Geometry → List ℕ → ℕ → Bool × Report
+found g s b = (watched g s b, reportIn g s b)
 
 -- emptying keeps a place's length
 keeps : (g : Geometry) (s : List ℕ) → Fitting g s → (w : ℕ) (p : List ℕ) → length p ≡ g .stride → length (emptied w p) ≡ g .stride
@@ -81,11 +86,8 @@ module _ (g : Geometry) (s : List ℕ) (f : Fitting g s) (a : ℕ) (h : holds g 
         count-same (2 ^ g .e) _ _
         (λ i c. ap (inPage (b / 4096)) (place-evicted i c) ∙ emptied-apart (a / 4096) (b / 4096) (placeIn g s i) apart (omega (arith, holds-are g b inside, f .bounds .below)))
 
-    pub evicted-apart : reportIn g (evicted g s a) b ≡ reportIn g s b
+    evicted-apart : found g (evicted g s a) b ≡ found g s b
     evicted-apart = rw (inside, bit-apart, dropped-apart)
-
-    pub watched-evicted : watched g (evicted g s a) b ≡ watched g s b
-    watched-evicted = rw (inside, bit-apart)
 
   -- the page's bit is on, the generation one up, and the slot's place holds the record
   module _ (rec : List ℕ) (l : length (placeFor g rec) ≡ g .stride) where
@@ -143,16 +145,15 @@ module _ (g : Geometry) (s : List ℕ) (f : Fitting g s) (a : ℕ) where
 
   -- a notice in another page finds what it would have found before: a write's sum may be taken before it or on the way
   module _ (b : ℕ) (apart : a / 4096 ≡ b / 4096 → ⊥) where
-    pub report-apart : reportIn g (noticedIn g s a) b ≡ reportIn g s b
-    report-apart = noticed-keeps g s a (λ z. reportIn g z b ≡ reportIn g s b) refl (λ h. go h (holds g b) refl)
+    found-apart : found g (noticedIn g s a) b ≡ found g s b
+    found-apart = noticed-keeps g s a (λ z. found g z b ≡ found g s b) refl (λ h. go h (holds g b) refl)
       where
-        go : holds g a ≡ true → (t : Bool) → holds g b ≡ t → reportIn g (evicted g s a) b ≡ reportIn g s b
+        go : holds g a ≡ true → (t : Bool) → holds g b ≡ t → found g (evicted g s a) b ≡ found g s b
         go h true i = evicted-apart g s f a h b apart i
         go h false i = rw i
 
     pub watched-apart : watched g (noticedIn g s a) b ≡ watched g s b
-    watched-apart = noticed-keeps g s a (λ z. watched g z b ≡ watched g s b) refl (λ h. go h (holds g b) refl)
-      where
-        go : holds g a ≡ true → (t : Bool) → holds g b ≡ t → watched g (evicted g s a) b ≡ watched g s b
-        go h true i = watched-evicted g s f a h b apart i
-        go h false i = rw i
+    watched-apart = ap (λ (r : Bool × Report). r .0) found-apart
+
+    pub report-apart : reportIn g (noticedIn g s a) b ≡ reportIn g s b
+    report-apart = ap (λ (r : Bool × Report). r .1) found-apart

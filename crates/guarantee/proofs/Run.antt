@@ -13,7 +13,7 @@ use Rattle.bits.proofs.Bytes.{length-le, length-patch}
 use Rattle.store.specs.Layout.{header, inBounds, storeLen, geometry, opened, Fitting}
 use Rattle.store.specs.declared.Geometry.{Geometry}
 use Rattle.store.specs.declared.Opened.{Opened}
-use Rattle.store.specs.declared.Opened.the-variants.{Sound, NotAStore}
+use Rattle.store.specs.declared.Opened.the-variants.{Sound}
 use Rattle.store.proofs.Known.{bounds-are}
 use Rattle.store.proofs.Held.{place-long}
 use Rattle.store.proofs.View.{fitting-blank, fitting-flushed, header-long}
@@ -22,6 +22,7 @@ use Rattle.cache.specs.declared.Judged.{Judged}
 use Rattle.cache.specs.declared.Judged.the-variants.{Accepted, Rejected}
 use Rattle.cache.proofs.Checks.{opened-fits, Taken, insert-taken}
 use Rattle.cache.proofs.View.{fitting-inserted, fitting-noticed}
+use Rattle.cache.proofs.Order.{on-any-bytes}
 use Rattle.notices.specs.Notices.{noticesBy, noticesCall}
 use Rattle.notices.proofs.Sums.{fitting-all}
 use Rattle.write.specs.Write.{writeJudged, noticedPages, writeBy, writeCall}
@@ -51,25 +52,13 @@ fitting-touched g s a b f = go (eqb (pageOf a) (pageOf b)) refl
     go false e = rw e (fitting-noticed g (noticedIn g s a) (fitting-noticed g s f a) b)
 
 length-notice : (s : List ℕ) (a : ℕ) → length (noticeCall s a .1) ≡ length s
-length-notice s a = go (opened s) refl
-  where
-    go : (o : Opened) → opened s ≡ o → length (noticeBy o s a .1) ≡ length s
-    go (Sound g) e = let f = opened-fits s g e in fitting-noticed g s f a .exact ∙ sym (f .exact)
-    go NotAStore e = refl
+length-notice s a = on-any-bytes s (λ o. length (noticeBy o s a .1) ≡ length s) (λ g f. fitting-noticed g s f a .exact ∙ sym (f .exact)) refl
 
 length-notices : (s list : List ℕ) → length (noticesCall s list .1) ≡ length s
-length-notices s list = go (opened s) refl
-  where
-    go : (o : Opened) → opened s ≡ o → length (noticesBy o s list .1) ≡ length s
-    go (Sound g) e = let f = opened-fits s g e in fitting-all g s f list .exact ∙ sym (f .exact)
-    go NotAStore e = refl
+length-notices s list = on-any-bytes s (λ o. length (noticesBy o s list .1) ≡ length s) (λ g f. fitting-all g s f list .exact ∙ sym (f .exact)) refl
 
 length-flush : (s : List ℕ) → length (flushCall s .1) ≡ length s
-length-flush s = go (opened s) refl
-  where
-    go : (o : Opened) → opened s ≡ o → length (flushBy o s .1) ≡ length s
-    go (Sound g) e = let f = opened-fits s g e in fitting-flushed g s f .exact ∙ sym (f .exact)
-    go NotAStore e = refl
+length-flush s = on-any-bytes s (λ o. length (flushBy o s .1) ≡ length s) (λ g f. fitting-flushed g s f .exact ∙ sym (f .exact)) refl
 
 module _ (s m : List ℕ) (a n v : ℕ) where
   length-write : length (writeCall s m a n v .1) ≡ length s
