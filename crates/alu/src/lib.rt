@@ -1,5 +1,7 @@
 // The ALU without multiply and divide: by a kind, and by a kind's number. (block.rs, `alu`)
 // The helpers stand for what Rust has as casts and methods: a cast here loses no bit, and numbers have no methods.
+#![tactic(auto)]
+
 ghost use Rattle.std.specs.Prelude.{◌≡◌, ◌-◌, ◌%◌, ◌^◌, ◌<◌, ◌≤◌, min, max};
 ghost use Rattle.bits.specs.Bits.{signed};
 ghost use Rattle.alu.specs.Rust.{widen, less, rotl, swapped, spread, orced, rust_alu};

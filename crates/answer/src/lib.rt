@@ -1,4 +1,6 @@
 // What a call answers: that it is done, or why it is refused, with the number for each (docs/FORMATS.md, Answer numbers). Every refusal is one of these.
+#![tactic(auto)]
+
 ghost use Rattle.std.specs.Prelude.{◌≡◌};
 ghost use Rattle.answer.specs.Answer.{refusal_number, answer_number, valued_number, valued_value};
 

@@ -49,8 +49,8 @@ to_z-signed x = by (ltb x (2 ^ 63))
 -- a signed number that the machine shifts, read back
 pub shr_back : (z y : ℤ) (m : ℕ) → SFits w64 z → z ≡ y → to_z w64 (of_z w64 (shr_z (to_z w64 (of_z w64 z)) m)) ≡ shr_z y m
 shr_back z y m ok e =
-    ap (λ (x : ℤ). to_z w64 (of_z w64 (shr_z x m))) (to_z-of_z ok)
-    ∙ to_z-of_z (record { sfits = lt_of_le_of_lt (mag_shr z m) ok.sfits })
+    ap (λ (x : ℤ). to_z w64 (of_z w64 (shr_z x m))) (to_z-of_z {w = w64} ok)
+    ∙ to_z-of_z {w = w64} (record { sfits = lt_of_le_of_lt (mag_shr z m) ok.sfits })
     ∙ ap (λ (x : ℤ). shr_z x m) e
 
 -- a difference that wraps: what b added to gives a

@@ -1,4 +1,6 @@
 // Numbers in bits and bytes: what every other crate reads and writes numbers with.
+#![tactic(auto)]
+
 ghost use Rattle.std.specs.Prelude.{◌≡◌, ◌+◌, ◌*◌, ◌<◌, ◌≤◌, ◌^◌, pos, length, replicate};
 ghost use Rattle.bits.specs.Bits.{signed};
 ghost use Rattle.bits.specs.Bytes.{le, patch, halfword_at, word_at, doubleword_at};
@@ -35,7 +37,7 @@ pub fn copy_all(src: &[u8], dst: &mut [u8])
     requires { length dst.old ≡ length src.now }
     ensures { dst.new ≡ src.now }
 {
-    bytes::copy(src, dst);
+    dst.copy_from_slice(src);
 }
 
 // The same byte all over dst.

@@ -1,4 +1,6 @@
 // Where a block may stand in guest memory, what its record is, and whether bytes are a well-formed one.
+#![tactic(auto)]
+
 ghost use Rattle.std.specs.Prelude.{◌≡◌, ◌≤◌, length, drop};
 ghost use Rattle.bits.specs.Bytes.{patch};
 ghost use Rattle.block.specs.Memory.{good_memory, spans, in_memory};

@@ -1,4 +1,6 @@
 // The block cache: calls on one lent store. (block.rs, BlockCache)
+#![tactic(auto)]
+
 ghost use Rattle.std.specs.Prelude.{◌≡◌, true, ◌++◌, ◌+◌, ◌<◌, ◌^◌, length};
 ghost use Rattle.store.specs.Layout.{header, opened, Fitting, holds};
 ghost use Rattle.store.specs.Places.{place_for, blank};

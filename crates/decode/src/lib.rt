@@ -1,4 +1,6 @@
 // Decodes words and halfwords into op records: at a place of lent bytes, for forming, and as the two public calls.
+#![tactic(auto)]
+
 ghost use Rattle.std.specs.Prelude.{◌≡◌, ◌+◌, ◌≤◌, length};
 ghost use Rattle.reading.specs.Readings.{reading_of};
 ghost use Rattle.decode.specs.Call.{put_of, decode_judged, word_call, half_call};

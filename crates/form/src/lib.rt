@@ -1,4 +1,6 @@
 // Forms the block at an address of guest memory into a lent record. (block.rs, decode_block)
+#![tactic(auto)]
+
 ghost use Rattle.std.specs.Prelude.{◌≡◌, ◌+◌, ◌≤◌, length};
 ghost use Rattle.answer.specs.declared.Answer.TheVariants.{Done};
 ghost use Rattle.reading.specs.Readings.{reading_of};

@@ -1,5 +1,7 @@
 // The values on forming (docs/FORMATS.md, Values), through the public call, with listings of small pages in both readings, and at the end three of one
 // input in the Rust's. A line of six numbers: the number, the record's address, count, byte_len, and the first op's number and kind. A record starts as 170s.
+#![tactic(auto)]
+
 use lines::number;
 
 // The readings, and a number that is none.

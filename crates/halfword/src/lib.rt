@@ -1,4 +1,6 @@
 // Halfwords to ops, as the Rust reads them: `decode_compressed`, with a function for each instruction. (block.rs, `decode_compressed`)
+#![tactic(auto)]
+
 pub mod instruction;
 
 ghost use Rattle.std.specs.Prelude.{◌≡◌, ◌+◌, ◌*◌, pos};

@@ -1,4 +1,6 @@
 // Writes the blocks of one page in a reading to standard output, as docs/FORMATS.md, The listing, has them.
+#![tactic(auto)]
+
 ghost use Rattle.std.specs.Prelude.{◌≡◌, ◌<◌, length};
 
 use answer::Answer;

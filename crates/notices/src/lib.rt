@@ -1,4 +1,6 @@
 // Many notices in one call, for whoever batches them.
+#![tactic(auto)]
+
 ghost use Rattle.std.specs.Prelude.{◌≡◌};
 ghost use Rattle.store.specs.Layout.{Fitting};
 ghost use Rattle.notices.specs.Notices.{noticed_all, report_all, notices_call};

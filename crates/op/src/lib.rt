@@ -1,4 +1,6 @@
 // Ops as the Rust has them, and an op as a record of sixteen bytes (docs/FORMATS.md). (block.rs, types)
+#![tactic(auto)]
+
 ghost use Rattle.std.specs.Prelude.{◌≡◌, ◌+◌, ◌≤◌, length};
 ghost use Rattle.bits.specs.Bytes.{patch};
 ghost use Rattle.op.specs.Kinds.{alu_number, kind_at, load_number, store_number, branch_number};

@@ -1,5 +1,7 @@
 // The plant's story on our cache: a loader puts a new routine into guest memory, first by a guest write, then behind the cache's back.
 // docs/PLANT.md tells it and says which theorem speaks of each step.
+#![tactic(auto)]
+
 use cache::ReportAnswer;
 use libc::STDOUT_FILENO;
 

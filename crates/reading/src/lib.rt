@@ -1,5 +1,7 @@
 // The two readings of words and halfwords: 0 is the Rust's, 1 the manual's. One decoder serves both. Where the manual parts from the Rust, at the
 // entries of docs/DIFFERENCES.md, its answer stands here; everywhere else the Rust's rows answer for both.
+#![tactic(auto)]
+
 ghost use Rattle.std.specs.Prelude.{◌≡◌, ◌&&◌, eqb};
 ghost use Rattle.bits.specs.Bits.{bits_at};
 ghost use Rattle.word.specs.Word.{rust_word};

@@ -1,6 +1,8 @@
 // Runs the Rust's own answers again, and the manual's: host/compare wrote them down (`cargo run --release -p compare -- --replay ../crates/replay` in host/), and this
 // program needs no Rust. It makes the same calls and prints how many entries it found the same. The input is 16 pages of memory, and then entries of
 // 40 bytes; host/compare/src/replay.rs says what they hold.
+#![tactic(auto)]
+
 ghost use Rattle.std.specs.Prelude.{◌≡◌, ◌^◌, ◌<◌, length};
 
 use cache::ReportAnswer;

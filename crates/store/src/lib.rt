@@ -1,4 +1,6 @@
 // The cache's store in lent bytes: its header, its page bitmap, its places. (block.rs, Slot and BlockCache's fields)
+#![tactic(auto)]
+
 ghost use Rattle.std.specs.Prelude.{◌≡◌, ◌+◌, ◌-◌, ◌*◌, ◌/◌, ◌^◌, ◌<◌, ◌≤◌, true, ◌++◌, length, take, replicate, if◌then◌else◌};
 ghost use Rattle.bits.specs.Bytes.{doubleword_at, part, patch};
 ghost use Rattle.store.specs.Layout.{header_len, header, sized, in_bounds, front, store_len, geometry, stated, opened, Bounded, Fitting, holds, memory_page, slot_of, place_at, generation_of, bumped};
@@ -51,7 +53,7 @@ fn sized(e: u64, base: u64, pages: u64) -> bool
         return false;
     }
     // One comparison for no page and for too many.
-    if MAX_PAGES <= std::num::wrapping_sub_u64(pages, 1) {
+    if MAX_PAGES <= pages.wrapping_sub(1) {
         return false;
     }
     block::good_memory(PAGE * pages, base)
@@ -106,7 +108,7 @@ impl Geometry {
         requires { Bounded self }
         ensures { result ≡ holds self address }
     {
-        std::num::wrapping_sub_u64(address, self.base) < PAGE * self.pages
+        address.wrapping_sub(self.base) < PAGE * self.pages
     }
 
     // The page of an address in memory, counted from the base.
@@ -217,7 +219,7 @@ pub fn bump(store: &mut [u8])
     requires { header_len ≤ length store.old }
     ensures { store.new ≡ bumped store.old }
 {
-    let next = std::num::wrapping_add_u64(generation(store), 1);
+    let next = generation(store).wrapping_add(1);
     bits::put_doubleword(store, GENERATION_AT, next);
 }
 

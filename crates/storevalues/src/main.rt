@@ -1,5 +1,7 @@
 // The store's lengths and values (docs/FORMATS.md, Values), run through the calls. Each line shows a call's number and value; of a notice, a list of
 // them and a write the slots examined and the places dropped.
+#![tactic(auto)]
+
 use cache::ReportAnswer;
 use libc::STDOUT_FILENO;
 use store::Geometry;

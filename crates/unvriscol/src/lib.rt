@@ -1,5 +1,7 @@
 // The C door: what the Rust core, or a C program, links. Each function is the call behind it on numbers and byte slices, promises what that call
 // promises, by the same definition, and asks nothing of its caller. include/unvriscol.h declares them in this order.
+#![tactic(auto)]
+
 ghost use Rattle.std.specs.Prelude.{◌≡◌};
 ghost use Rattle.answer.specs.Answer.{answer_number, valued_number, valued_value};
 ghost use Rattle.decode.specs.Call.{word_call, half_call};

@@ -1,5 +1,7 @@
 // The values of docs/FORMATS.md: those marked P stand in specs/Values.antt as one table, proved; this program runs them through the public calls.
 // A line of decoding shows a call's number and the lent bytes afterwards, which start as 170s; a line of the ALU the number and the value.
+#![tactic(auto)]
+
 use libc::STDOUT_FILENO;
 
 // The readings, and a number that is none.

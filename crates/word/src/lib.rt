@@ -1,5 +1,7 @@
 // Words to ops, as the Rust reads them: `decode_full`, in two steps. `form_of` finds how the operands are read, with the kind, and `op_of`
 // reads them. (block.rs, `decode_full`)
+#![tactic(auto)]
+
 pub mod instruction;
 
 ghost use Rattle.std.specs.Prelude.{◌≡◌, ◌<◌};

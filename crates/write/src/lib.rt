@@ -1,4 +1,6 @@
 // A guest's write to its memory, with the notices that the cache needs.
+#![tactic(auto)]
+
 ghost use Rattle.std.specs.Prelude.{◌≡◌, ◌+◌, ◌≤◌, length};
 ghost use Rattle.bits.specs.Bytes.{le, patch};
 ghost use Rattle.store.specs.Layout.{opened, Fitting};
