@@ -1,7 +1,7 @@
 /* Calls Unvriscol from C and prints the answers, which are those of examples/door.stdout. From a fresh clone:
  *
  *     rt staticlib unvriscol
- *     gcc -Wall -Wextra -Iinclude -o target/door examples/door.c target/staticlib/libunvriscol.a
+ *     gcc -Wall -Wextra -Iinclude -o target/door examples/door.c crates/unvriscol/out/libunvriscol.a
  *     target/door
  */
 #include <inttypes.h>

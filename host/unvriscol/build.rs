@@ -7,7 +7,7 @@ use std::{env, fs};
 
 const PLACE: &str = "UNVRISCOL_LIB_DIR";
 const ARCHIVE: &str = "libunvriscol.a";
-const BUILD: &str = "rt staticlib unvriscol";
+const BUILD: &str = "cd crates/unvriscol && rt lib";
 
 fn main() {
     println!("cargo:rerun-if-env-changed={PLACE}");
@@ -40,7 +40,8 @@ fn sources(root: &Path) -> Vec<PathBuf> {
     while let Some(&name) = needed.get(at) {
         at += 1;
         let mut lines = text.lines().filter_map(|line| line.split_once(':'));
-        if let Some((_, uses)) = lines.find(|(crate_name, _)| *crate_name == name) {
+        // The door's line has the word staticlib behind its name.
+        if let Some((_, uses)) = lines.find(|(said, _)| said.split_whitespace().next() == Some(name)) {
             needed.extend(uses.split_whitespace());
             let mut seen = HashSet::new();
             needed.retain(|name| seen.insert(*name));
@@ -126,14 +127,14 @@ fn named(here: &Path, name: &Path, sources: &[PathBuf]) -> PathBuf {
 
 /// The folder that `rt` writes to, after running it where the archive there does not do.
 fn built(root: &Path, sources: &[PathBuf]) -> PathBuf {
-    let place = root.join("target/staticlib");
+    let place = root.join("crates/unvriscol/out");
     let lacks = lacking(&place);
     let Some(why) = lacks.clone().or_else(|| outdated(&place, sources)) else {
         return place;
     };
     let run = Command::new("rt")
-        .args(["staticlib", "unvriscol"])
-        .current_dir(root)
+        .arg("lib")
+        .current_dir(root.join("crates/unvriscol"))
         .output();
     match run {
         Err(error) if lacks.is_some() => give_up(&format!(

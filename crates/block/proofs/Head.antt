@@ -16,7 +16,7 @@ pub record Head (s : List ℕ) (address : ℕ) : Type 0 where
   pub zeros : word_at s 12 ≡ 0
   pub some : 1 ≤ halfword_at s 8
   pub few : halfword_at s 8 ≤ 64
-  pub in_page_lem : address % 4096 + halfword_at s 10 ≤ 4096
+  pub in_page : address % 4096 + halfword_at s 10 ≤ 4096
 
 abbrev ops_decide : List ℕ → Bool
 ops_decide s = ops_well_formed (drop 16 s) (halfword_at s 8) 0 (halfword_at s 10)
@@ -40,7 +40,7 @@ says e =
         zeros = eqb-true _ _ f.1;
         some = leb-true _ _ d.1;
         few = leb-true _ _ c.1;
-        in_page_lem = leb-true _ _ b.1;
+        in_page = leb-true _ _ b.1;
       },
       a.1,
     )

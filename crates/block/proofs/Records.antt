@@ -69,7 +69,7 @@ module _ (address : ℕ) (ops : List Insn) (a : address < 2 ^ 64) (some : 1 ≤ 
         zeros = refl;
         some = rw count some;
         few = rw count few;
-        in_page_lem = rw len b;
+        in_page = rw len b;
       }
 
   pub record_well : ops_well_formed (op_records 0 ops ++ replicate (1024 - 16 * length ops) 0) (length ops) 0 (byte_len ops) ≡ true → well_formed (block_record address ops) address ≡ true

@@ -108,10 +108,10 @@ module _ (memory : List ℕ) (base address : ℕ) where
 run_well : (s : List ℕ) (address : ℕ) (ops : List Insn) → Run s 64 0 ops → address < 2 ^ 64 → (length ops ≡ 0 → ⊥) → length s ≤ 4096 - address % 4096 → well_formed (block_record address ops) address ≡ true
 run_well s address ops run h some short =
     let least : 1 ≤ length ops = omega arith in
-    let in_page_lem : address % 4096 + byte_len ops ≤ 4096 = omega (arith, run.short) in
+    let in_page : address % 4096 + byte_len ops ≤ 4096 = omega (arith, run.short) in
     let zeros : List ℕ = replicate (1024 - 16 * length ops) 0 in
     let sum : 0 + byte_len ops ≡ byte_len ops = omega arith in
-    record_well address ops h least run.few in_page_lem
+    record_well address ops h least run.few in_page
     (ap (λ (len : ℕ). ops_well_formed (op_records 0 ops ++ zeros) (length ops) 0 len) (sym sum) ∙ run.well zeros (zero_all (1024 - 16 * length ops)))
 
 -- the record of a block that forms is well formed for its address

@@ -47,7 +47,7 @@ dropped_of answer = (reported answer).dropped
 hits_one : (s : List ℕ) (p : ℕ) → 1 ≤ hits_in s p → HitIn s p
 hits_one s p c =
     let w = count-some 4096 _ c in
-    record { address = first_of p + w.at; in_page_lem = in_page_lem p w.at w.below; hits = eqb-true _ _ w.passes }
+    record { address = first_of p + w.at; in_page = in_page_lem p w.at w.below; hits = eqb-true _ _ w.passes }
 
 one_hits : (s : List ℕ) (p : ℕ) → HitIn s p → 1 ≤ hits_in s p
 one_hits s p w = some-count 4096 _ (record { at = w.address - first_of p; below = omega (arith, w.in_page); passes = rw back (eq-eqb _ _ w.hits) })

@@ -23,7 +23,7 @@ hits_over s (a ∷ rest) = cond (names rest (page_of a)) (hits_over s rest) (hit
 -- that there is one
 pub record HitIn (s : List ℕ) (p : ℕ) : Type 0 where
   pub address : ℕ
-  pub in_page_lem : page_of address ≡ p
+  pub in_page : page_of address ≡ p
   pub hits : lookup_number (lookup_call s address) ≡ 0
 
 -- and that there is one in the page of some address of a list

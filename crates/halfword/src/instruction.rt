@@ -3,7 +3,7 @@ ghost use Rattle.std.specs.Prelude.{◌≡◌};
 ghost use Rattle.halfword.specs.Instruction.{quadrant, funct3, rs2_prime, rs1_prime, rd, rs2};
 
 // 16-bit compressed instruction wrapper
-#[derive(Drop)]
+#[derive(Clone, Copy)]
 pub struct CompressedInstruction(pub u16);
 
 impl CompressedInstruction {

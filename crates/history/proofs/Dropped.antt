@@ -53,7 +53,7 @@ module _ (slot page : ℕ → ℕ) where
       go false e = rw (e, unmarked_out h p i e) (add-zero (cond (is_full (places slot page h i)) 1 0))
 
   -- n slots, and m addresses to a page, from the first of each on
-  module _ (n : ℕ) (slots : (a : ℕ) → slot a < n) (first : ℕ → ℕ) (m : ℕ) (in_page_lem : (p k : ℕ) → k < m → page (first p + k) ≡ p) (its_page : (a : ℕ) → (first (page a) ≤ a) × (a < first (page a) + m)) where
+  module _ (n : ℕ) (slots : (a : ℕ) → slot a < n) (first : ℕ → ℕ) (m : ℕ) (in_page : (p k : ℕ) → k < m → page (first p + k) ≡ p) (its_page : (a : ℕ) → (first (page a) ≤ a) × (a < first (page a) + m)) where
     -- each place of the page is the slot of an address that a lookup hits, and each such address is that of a place
     pub places_hits : (h : List Event) (p : ℕ) → count n (λ i. place_in_page p (places slot page h i)) ≡ hits_from slot page (first p) m h
     unfolding address_of
@@ -74,7 +74,7 @@ module _ (slot page : ℕ → ℕ) where
         place k l none e t = absurd (true≢false (sym t))
         place k l (some r) e t =
             let back : first p + k - first p ≡ k = omega arith in
-            record { at = slot (first p + k); below = slots (first p + k); passes = rw (shown_full slot page h (first p + k) r e, eq-eqb (first p + k - first p) k back, eq-eqb (page (first p + k)) p (in_page_lem p k l)) }
+            record { at = slot (first p + k); below = slots (first p + k); passes = rw (shown_full slot page h (first p + k) r e, eq-eqb (first p + k - first p) k back, eq-eqb (page (first p + k)) p (in_page p k l)) }
 
     -- so an unmarked page has none
     pub unmarked_none : (h : List Event) (p : ℕ) → marked slot page h p ≡ false → hits_from slot page (first p) m h ≡ 0

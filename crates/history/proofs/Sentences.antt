@@ -52,7 +52,7 @@ module _ (slot page : ℕ → ℕ) where
   lives_shown h a r l = rw l.is (lives l.since l.before a r l.safe)
 
   again : (e : Event) (h : List Event) (p : ℕ) → Quiet slot page p e → Marked slot page h p → Marked slot page (e ∷ h) p
-  again e h p s l = record { since = e ∷ l.since; before = l.before; a = l.a; r = l.r; is = ap (λ (z : List Event). e ∷ z) l.is; in_page_lem = l.in_page; safe = and_then s l.safe }
+  again e h p s l = record { since = e ∷ l.since; before = l.before; a = l.a; r = l.r; is = ap (λ (z : List Event). e ∷ z) l.is; in_page = l.in_page; safe = and_then s l.safe }
 
   pub marked-is : (h : List Event) (p : ℕ) → marked slot page h p ≡ true → Marked slot page h p
   unfolding marked
@@ -60,7 +60,7 @@ module _ (slot page : ℕ → ℕ) where
   marked-is (inserted a r ∷ h) p e = go (marked-is h p) (eqb (page a) p) refl e
     where
       go : (marked slot page h p ≡ true → Marked slot page h p) → (t : Bool) → eqb (page a) p ≡ t → (t || marked slot page h p) ≡ true → Marked slot page (inserted a r ∷ h) p
-      go ih true et k = record { since = []; before = h; a = a; r = r; is = refl; in_page_lem = eqb-true (page a) p et; safe = none_left }
+      go ih true et k = record { since = []; before = h; a = a; r = r; is = refl; in_page = eqb-true (page a) p et; safe = none_left }
       go ih false et k = again (inserted a r) h p tt (ih k)
   marked-is (touched q ∷ h) p e = go (marked-is h p) (eqb q p) refl e
     where

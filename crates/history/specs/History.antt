@@ -88,5 +88,5 @@ module _ (slot page : ℕ → ℕ) where
     pub a : ℕ
     pub r : List ℕ
     pub is : h ≡ since ++ inserted a r ∷ before
-    pub in_page_lem : page a ≡ p
+    pub in_page : page a ≡ p
     pub safe : Every (Quiet p) since

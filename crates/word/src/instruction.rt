@@ -2,7 +2,7 @@
 ghost use Rattle.std.specs.Prelude.{◌≡◌, pos};
 ghost use Rattle.word.specs.Instruction.{opcode, rd, rs1, rs2, funct3, funct7, imm_i, imm_s, imm_b, imm_u, imm_j, shamt6, shamt5};
 
-#[derive(Drop)]
+#[derive(Clone, Copy)]
 pub struct Instruction(pub u32);
 
 impl Instruction {

@@ -261,6 +261,7 @@ fn reg32_form(key: u32, rs2: u32) -> Form
     }
 }
 
+#[tactic(auto, unfolding(crate::specs::Word::form_by))]
 fn form_of(op: u32, funct3: u32, funct7: u32, rs2: u32) -> Form
     requires { (funct3 < 8) × (funct7 < 128) × (rs2 < 32) }
     ensures { result ≡ form_by op funct3 funct7 rs2 }

@@ -32,6 +32,6 @@ well_formed_spec =
       zeros = omega (arith, c.before.before.before.before.before.before.before.word_at.ensures, c.before.before.before.before.before.before.if3.false);
       some = rw many at c.before.before.before.before.if4.false;
       few = rw many at c.before.before.before.if5.false;
-      in_page_lem = rw len at c.before.if6.false;
+      in_page = rw len at c.before.if6.false;
     } in
     rw (decides head, ← many, ← len) c.ops-well-formed.ensures))
