@@ -12,7 +12,6 @@ use answer::Valued;
 use answer::Valued::{NoValue, Value};
 use bits::sign_extend;
 use op::{AluKind, KindAt, bits_of, kind_at};
-use std::num::{wrapping_add_u32, wrapping_add_u64, wrapping_sub_u32, wrapping_sub_u64};
 
 const WORD: u64 = 0x1_0000_0000;
 
@@ -142,8 +141,8 @@ pub fn alu(kind: AluKind, lhs: u64, rhs: u64) -> Valued
     ensures { result ≡ rust_alu kind lhs rhs }
 {
     match kind {
-        AluKind::Add => Value(wrapping_add_u64(lhs, rhs)),
-        AluKind::Sub => Value(wrapping_sub_u64(lhs, rhs)),
+        AluKind::Add => Value(lhs.wrapping_add(rhs)),
+        AluKind::Sub => Value(lhs.wrapping_sub(rhs)),
         AluKind::Sll => Value(lhs << (rhs & 0x3f)),
         AluKind::Slt => Value(less(lhs, rhs) as u64),
         AluKind::Sltu => Value((lhs < rhs) as u64),
@@ -152,8 +151,8 @@ pub fn alu(kind: AluKind, lhs: u64, rhs: u64) -> Valued
         AluKind::Sra => Value(bits_of(as_i64(lhs) >> (rhs & 0x3f))),
         AluKind::Or => Value(lhs | rhs),
         AluKind::And => Value(lhs & rhs),
-        AluKind::Addw => Value(widen_word(wrapping_add_u32(as_u32(lhs), as_u32(rhs)))),
-        AluKind::Subw => Value(widen_word(wrapping_sub_u32(as_u32(lhs), as_u32(rhs)))),
+        AluKind::Addw => Value(widen_word(as_u32(lhs).wrapping_add(as_u32(rhs)))),
+        AluKind::Subw => Value(widen_word(as_u32(lhs).wrapping_sub(as_u32(rhs)))),
         AluKind::Sllw => Value(widen_word(as_u32(lhs) << (rhs & 0x1f))),
         AluKind::Srlw => Value(widen_word(as_u32(lhs) >> (rhs & 0x1f))),
         AluKind::Sraw => Value(bits_of(sign_extend(lhs % WORD, 32) >> (rhs & 0x1f))),
@@ -191,13 +190,13 @@ pub fn alu(kind: AluKind, lhs: u64, rhs: u64) -> Valued
         AluKind::SextH => Value(widen(lhs % 0x1_0000, 16)),
         AluKind::ZextH => Value(lhs % 0x1_0000),
         AluKind::Rev8 => Value(swap_bytes(lhs)),
-        AluKind::Sh1add => Value(wrapping_add_u64(lhs << 1, rhs)),
-        AluKind::Sh2add => Value(wrapping_add_u64(lhs << 2, rhs)),
-        AluKind::Sh3add => Value(wrapping_add_u64(lhs << 3, rhs)),
-        AluKind::AddUw => Value(wrapping_add_u64(lhs % WORD, rhs)),
-        AluKind::Sh1addUw => Value(wrapping_add_u64((lhs % WORD) << 1, rhs)),
-        AluKind::Sh2addUw => Value(wrapping_add_u64((lhs % WORD) << 2, rhs)),
-        AluKind::Sh3addUw => Value(wrapping_add_u64((lhs % WORD) << 3, rhs)),
+        AluKind::Sh1add => Value((lhs << 1).wrapping_add(rhs)),
+        AluKind::Sh2add => Value((lhs << 2).wrapping_add(rhs)),
+        AluKind::Sh3add => Value((lhs << 3).wrapping_add(rhs)),
+        AluKind::AddUw => Value((lhs % WORD).wrapping_add(rhs)),
+        AluKind::Sh1addUw => Value(((lhs % WORD) << 1).wrapping_add(rhs)),
+        AluKind::Sh2addUw => Value(((lhs % WORD) << 2).wrapping_add(rhs)),
+        AluKind::Sh3addUw => Value(((lhs % WORD) << 3).wrapping_add(rhs)),
         AluKind::SlliUw => Value((lhs % WORD) << (rhs & 0x3f)),
         AluKind::OrcB => Value(orc_b(lhs)),
     }
