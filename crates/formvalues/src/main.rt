@@ -3,6 +3,7 @@
 #![tactic(auto)]
 
 use lines::number;
+use std::io;
 
 // The readings, and a number that is none.
 const RUST: u64 = 0;
@@ -11,15 +12,15 @@ const MANUAL: u64 = 1;
 
 const NONE: u64 = 2;
 
-fn formed(reading: u64, page: &[u8], base: u64, address: u64) {
+fn formed(rt: &impl Print, reading: u64, page: &[u8], base: u64, address: u64) -> io::Result<()> {
     let mut lent = [170u8; 1040];
     let answer = form::form(reading, page, base, address, &mut lent);
-    number(answer.number(), b' ');
-    number(bits::doubleword_at(&lent, 0), b' ');
-    number(bits::halfword_at(&lent, 8) as u64, b' ');
-    number(bits::halfword_at(&lent, 10) as u64, b' ');
-    number(bits::as_u64(lent[16]), b' ');
-    number(bits::as_u64(lent[17]), b'\n');
+    number(rt, answer.number(), b' ')?;
+    number(rt, bits::doubleword_at(&lent, 0), b' ')?;
+    number(rt, bits::halfword_at(&lent, 8) as u64, b' ')?;
+    number(rt, bits::halfword_at(&lent, 10) as u64, b' ')?;
+    number(rt, bits::as_u64(lent[16]), b' ')?;
+    number(rt, bits::as_u64(lent[17]), b'\n')
 }
 
 fn page_of(low: u8, high: u8) -> [u8; 4096] {
@@ -30,28 +31,28 @@ fn page_of(low: u8, high: u8) -> [u8; 4096] {
 }
 
 // Two bytes at the page's end.
-fn at_end(low: u8, high: u8, address: u64) {
+fn at_end(rt: &impl Print, low: u8, high: u8, address: u64) -> io::Result<()> {
     let page = page_of(low, high);
-    formed(RUST, &page, 0x1000, address);
+    formed(rt, RUST, &page, 0x1000, address)
 }
 
 // One word at the page's start, in a reading.
-fn at_start(reading: u64, raw: u32) {
+fn at_start(rt: &impl Print, reading: u64, raw: u32) -> io::Result<()> {
     let mut page = [0u8; 4096];
     page[0] = (raw % 256) as u8;
     page[1] = (raw / 0x100 % 256) as u8;
     page[2] = (raw / 0x1_0000 % 256) as u8;
     page[3] = (raw / 0x100_0000 % 256) as u8;
-    formed(reading, &page, 0x1000, 0x1000);
+    formed(rt, reading, &page, 0x1000, 0x1000)
 }
 
-fn in_both(raw: u32) {
-    at_start(RUST, raw);
-    at_start(MANUAL, raw);
+fn in_both(rt: &impl Print, raw: u32) -> io::Result<()> {
+    at_start(rt, RUST, raw)?;
+    at_start(rt, MANUAL, raw)
 }
 
 // C.ADDI of x10 with 1, a halfword and C.JR of x1, listed in both readings; then the number and record where the halfword comes first.
-fn between(raw: u16) {
+fn between(rt: &impl Print, raw: u16) -> io::Result<()> {
     let mut page = [0u8; 4096];
     page[0] = 0x05;
     page[1] = 0x05;
@@ -59,63 +60,63 @@ fn between(raw: u16) {
     page[3] = (raw / 256) as u8;
     page[4] = 0x82;
     page[5] = 0x80;
-    lines::list(RUST, &page);
-    lines::list(MANUAL, &page);
-    formed(RUST, &page, 0x1000, 0x1002);
-    formed(MANUAL, &page, 0x1000, 0x1002);
+    lines::list(rt, RUST, &page)?;
+    lines::list(rt, MANUAL, &page)?;
+    formed(rt, RUST, &page, 0x1000, 0x1002)?;
+    formed(rt, MANUAL, &page, 0x1000, 0x1002)
 }
 
-fn halfwords() {
+fn halfwords(rt: &impl Print) -> io::Result<()> {
     let mut page = [0u8; 4096];
     let mut i = 0;
     while i < 65 {
         page[i * 2] = 1;
         i += 1;
     }
-    formed(RUST, &page, 0x1000, 0x1000);
-    formed(RUST, &page, 0x1000, 0x1080);
+    formed(rt, RUST, &page, 0x1000, 0x1000)?;
+    formed(rt, RUST, &page, 0x1000, 0x1080)
 }
 
 // A record of another length.
-fn short(reading: u64) {
+fn short(rt: &impl Print, reading: u64) -> io::Result<()> {
     let page = [0u8; 4096];
     let mut lent = [170u8; 1039];
     let answer = form::form(reading, &page, 0, 0, &mut lent);
-    number(answer.number(), b' ');
-    number(bits::as_u64(lent[0]), b'\n');
+    number(rt, answer.number(), b' ')?;
+    number(rt, bits::as_u64(lent[0]), b'\n')
 }
 
-fn main() {
-    at_end(0x13, 0x05, 0x1ffe);
-    at_end(0x01, 0x00, 0x1ffe);
-    at_end(0x01, 0x00, 0x1fff);
-    halfwords();
-    in_both(0x0000_0073);
-    in_both(0x0000_000f);
-    in_both(0x0000_100f);
+fn main(rt: HostRuntime) -> io::Result<()> {
+    at_end(&rt, 0x13, 0x05, 0x1ffe)?;
+    at_end(&rt, 0x01, 0x00, 0x1ffe)?;
+    at_end(&rt, 0x01, 0x00, 0x1fff)?;
+    halfwords(&rt)?;
+    in_both(&rt, 0x0000_0073)?;
+    in_both(&rt, 0x0000_000f)?;
+    in_both(&rt, 0x0000_100f)?;
     // MINU, MAX, SEXT.B and what the Rust reads as it; then C.NOP and C.LWSP with rd 0, which is reserved, and the other way round
-    in_both(0x0ac5_d533);
-    in_both(0x0ac5_e533);
-    in_both(0x6045_1513);
-    in_both(0x6825_1513);
-    in_both(0x4002_0001);
-    in_both(0x0001_4002);
+    in_both(&rt, 0x0ac5_d533)?;
+    in_both(&rt, 0x0ac5_e533)?;
+    in_both(&rt, 0x6045_1513)?;
+    in_both(&rt, 0x6825_1513)?;
+    in_both(&rt, 0x4002_0001)?;
+    in_both(&rt, 0x0001_4002)?;
     // C.ADDI of x2 with 0, and C.ADDI16SP with 0, whose record is the same; C.LUI with 0 of x0 and of x1
-    between(0x0101);
-    between(0x6101);
-    between(0x6001);
-    between(0x6081);
-    at_start(NONE, 0x0ac5_d533);
-    at_end(0x01, 0x00, 0x0fff);
-    at_end(0x01, 0x00, 0x2000);
+    between(&rt, 0x0101)?;
+    between(&rt, 0x6101)?;
+    between(&rt, 0x6001)?;
+    between(&rt, 0x6081)?;
+    at_start(&rt, NONE, 0x0ac5_d533)?;
+    at_end(&rt, 0x01, 0x00, 0x0fff)?;
+    at_end(&rt, 0x01, 0x00, 0x2000)?;
     let page = [0u8; 4096];
-    formed(RUST, &page, 0x800, 0x800);
-    formed(RUST, &page[1..], 0, 0);
-    formed(RUST, &page, 0xff_ffff_ffff_f000, 0xff_ffff_ffff_f000);
-    formed(RUST, &page, 0x100_0000_0000_0000, 0);
-    short(RUST);
-    short(NONE);
-    lines::list_input(RUST);
-    lines::list_input(RUST);
-    lines::list_input(RUST);
+    formed(&rt, RUST, &page, 0x800, 0x800)?;
+    formed(&rt, RUST, &page[1..], 0, 0)?;
+    formed(&rt, RUST, &page, 0xff_ffff_ffff_f000, 0xff_ffff_ffff_f000)?;
+    formed(&rt, RUST, &page, 0x100_0000_0000_0000, 0)?;
+    short(&rt, RUST)?;
+    short(&rt, NONE)?;
+    lines::list_input(&rt, RUST)?;
+    lines::list_input(&rt, RUST)?;
+    lines::list_input(&rt, RUST)
 }

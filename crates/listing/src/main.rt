@@ -1,6 +1,8 @@
 // The listing program: the blocks of the page at base 0 that standard input gives, in the Rust's reading.
 #![tactic(auto)]
 
-fn main() {
-    lines::list_input(0);
+use std::io;
+
+fn main(rt: HostRuntime) -> io::Result<()> {
+    lines::list_input(&rt, 0)
 }

@@ -3,7 +3,7 @@
 #![tactic(auto)]
 
 use cache::ReportAnswer;
-use libc::STDOUT_FILENO;
+use std::io;
 
 // The Rust's reading, for the store and for each block.
 const READING: u64 = 0;
@@ -17,97 +17,100 @@ const CLOSE: u64 = 0x0010_0513;
 
 const RETURN: u64 = 0x8082;
 
-fn text(line: &[u8]) {
-    io::write_all(STDOUT_FILENO, line);
+fn text(rt: &impl Print, line: &[u8]) -> io::Result<()> {
+    rt.write_all(line)
 }
 
-fn end(n: u64) {
-    io::print_decimal(STDOUT_FILENO, n);
-    text(b"\n");
+fn end(rt: &impl Print, n: u64) -> io::Result<()> {
+    println!(rt; "{n}")
 }
 
 // What a notice or a guest write did.
-fn reported(answer: ReportAnswer) {
+fn reported(rt: &impl Print, answer: ReportAnswer) -> io::Result<()> {
     let report = answer.report();
-    io::print_decimal(STDOUT_FILENO, answer.number());
-    text(b", slots examined ");
-    io::print_decimal(STDOUT_FILENO, report.examined);
-    text(b", blocks dropped ");
-    end(report.dropped);
+    let number = answer.number();
+    print!(rt;
+        "{number}, slots examined {}, blocks dropped ",
+        report.examined
+    )?;
+    end(rt, report.dropped)
 }
 
-fn write(store: &mut [u8], memory: &mut [u8], address: u64, n: u64, value: u64) {
+fn write(
+    rt: &impl Print,
+    store: &mut [u8],
+    memory: &mut [u8],
+    address: u64,
+    n: u64,
+    value: u64,
+) -> io::Result<()> {
     let answer = write::guest_write(store, memory, address, n, value);
-    text(b"  guest write: ");
-    reported(answer);
+    text(rt, b"  guest write: ")?;
+    reported(rt, answer)
 }
 
 // What x10 is loaded with by the block that a lookup shows.
-fn lookup(store: &[u8]) {
+fn lookup(rt: &impl Print, store: &[u8]) -> io::Result<()> {
     let part = cache::lookup(store, ROUTINE);
     if part.len() == 1040 {
-        text(b"  lookup: hit, x10 = ");
-        end(bits::doubleword_at(part, 24));
+        text(rt, b"  lookup: hit, x10 = ")?;
+        end(rt, bits::doubleword_at(part, 24))
     } else {
-        text(b"  lookup: ");
-        end(cache::find(store, ROUTINE).number());
+        text(rt, b"  lookup: ")?;
+        end(rt, cache::find(store, ROUTINE).number())
     }
 }
 
-fn form_and_insert(store: &mut [u8], memory: &[u8]) {
+fn form_and_insert(rt: &impl Print, store: &mut [u8], memory: &[u8]) -> io::Result<()> {
     let mut record = [0u8; 1040];
-    text(b"  form: ");
-    io::print_decimal(
-        STDOUT_FILENO,
-        form::form(READING, memory, 0, ROUTINE, &mut record).number(),
-    );
-    text(b", x10 = ");
-    end(bits::doubleword_at(&record, 24));
-    text(b"  insert: ");
-    end(cache::insert(store, ROUTINE, &record).number());
+    let number = form::form(READING, memory, 0, ROUTINE, &mut record).number();
+    print!(rt; "  form: {number}, x10 = ")?;
+    end(rt, bits::doubleword_at(&record, 24))?;
+    text(rt, b"  insert: ")?;
+    end(rt, cache::insert(store, ROUTINE, &record).number())
 }
 
 // A new store, and the routine that holds the contactor open: formed, inserted and found.
-fn hold(store: &mut [u8], memory: &mut [u8]) {
-    text(b"  make: ");
-    end(cache::make(store, READING, 2, 0, 1).number());
-    write(store, memory, ROUTINE, 4, HOLD);
-    write(store, memory, ROUTINE + 4, 2, RETURN);
-    lookup(store);
-    form_and_insert(store, memory);
-    lookup(store);
+fn hold(rt: &impl Print, store: &mut [u8], memory: &mut [u8]) -> io::Result<()> {
+    text(rt, b"  make: ")?;
+    end(rt, cache::make(store, READING, 2, 0, 1).number())?;
+    write(rt, store, memory, ROUTINE, 4, HOLD)?;
+    write(rt, store, memory, ROUTINE + 4, 2, RETURN)?;
+    lookup(rt, store)?;
+    form_and_insert(rt, store, memory)?;
+    lookup(rt, store)
 }
 
 // The loader writes as the guest does: the old block is gone before the new routine is there.
-fn told() {
+fn told(rt: &impl Print) -> io::Result<()> {
     let mut store = [0u8; 4200];
     let mut memory = [0u8; 4096];
-    text(b"the loader tells the cache\n");
-    hold(&mut store, &mut memory);
-    write(&mut store, &mut memory, ROUTINE, 4, CLOSE);
-    lookup(&store);
-    form_and_insert(&mut store, &memory);
-    lookup(&store);
+    text(rt, b"the loader tells the cache\n")?;
+    hold(rt, &mut store, &mut memory)?;
+    write(rt, &mut store, &mut memory, ROUTINE, 4, CLOSE)?;
+    lookup(rt, &store)?;
+    form_and_insert(rt, &mut store, &memory)?;
+    lookup(rt, &store)
 }
 
 // The loader changes the bytes and tells nobody: the theorem's premise fails, and the lookup shows the old block. A notice mends it.
-fn untold() {
+fn untold(rt: &impl Print) -> io::Result<()> {
     let mut store = [0u8; 4200];
     let mut memory = [0u8; 4096];
-    text(b"the loader tells nobody\n");
-    hold(&mut store, &mut memory);
+    text(rt, b"the loader tells nobody\n")?;
+    hold(rt, &mut store, &mut memory)?;
     memory[0x102] = 0x10;
-    text(b"  memory changed behind the cache's back\n");
-    lookup(&store);
+    text(rt, b"  memory changed behind the cache's back\n")?;
+    lookup(rt, &store)?;
     let answer = cache::notice(&mut store, ROUTINE);
-    text(b"  notice: ");
-    reported(answer);
-    lookup(&store);
-    form_and_insert(&mut store, &memory);
-    lookup(&store);
+    text(rt, b"  notice: ")?;
+    reported(rt, answer)?;
+    lookup(rt, &store)?;
+    form_and_insert(rt, &mut store, &memory)?;
+    lookup(rt, &store)
 }
 
-fn main() {
-    told();
-    untold();
+fn main(rt: HostRuntime) -> io::Result<()> {
+    told(&rt)?;
+    untold(&rt)
 }

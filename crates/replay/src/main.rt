@@ -3,10 +3,10 @@
 // 40 bytes; host/compare/src/replay.rs says what they hold.
 #![tactic(auto)]
 
-ghost use Rattle.std.specs.Prelude.{◌≡◌, ◌^◌, ◌<◌, length};
+ghost use Rattle.std.specs.Prelude.{◌≡◌, ◌^◌, ◌<◌, length, IfOk};
 
 use cache::ReportAnswer;
-use libc::{STDIN_FILENO, STDOUT_FILENO};
+use std::io;
 
 // Where the memory stands.
 const BASE: u64 = 0x8000_0000;
@@ -14,7 +14,7 @@ const BASE: u64 = 0x8000_0000;
 // How many calls a run has.
 const RUN: u64 = 128;
 
-#[derive(Drop)]
+#[derive(Clone, Copy)]
 struct Entry {
     tag: u8,
     number: u64,
@@ -78,16 +78,16 @@ struct Taken {
 }
 
 // Where the input ends early, the rest of the entry is zeros.
-fn next(input: u64) -> Taken
+fn next(rt: &impl Input, input: u64) -> io::Result<Taken>
     requires { input < 2 ^ 32 }
-    ensures { result.input < 2 ^ 32 }
+    ensures { IfOk result (λ taken. taken.input < 2 ^ 32) }
 {
     let mut s = [0u8; 40];
-    let n = io::read_full(STDIN_FILENO, &mut s);
-    Taken {
+    let n = lines::read_full(rt, &mut s)?;
+    Ok(Taken {
         input: with_bytes(input, &s[..n]),
         entry: parsed(&s),
-    }
+    })
 }
 
 fn halfword(reading: u64, digest: u64, raw: u16) -> u64
@@ -123,7 +123,7 @@ fn called(entry: Entry, i: u64, memory: &[u8], digest: u64) -> u64
     ensures { result < 2 ^ 32 }
 {
     let tag = entry.tag;
-    let at = std::num::wrapping_add_u64(entry.a, i);
+    let at = entry.a.wrapping_add(i);
     match tag {
         0 => halfword(entry.small, digest, (at % 0x1_0000) as u16),
         1 => word(
@@ -199,7 +199,7 @@ fn listed(entry: Entry) -> [u64; 64]
     let mut behind = 0;
     let mut i = 0;
     while i < 64 {
-        list[i] = std::num::wrapping_add_u64(entry.a, behind);
+        list[i] = entry.a.wrapping_add(behind);
         behind = (behind + entry.b % 0x2_0000) % 0x2_0000;
         i += 1;
     }
@@ -266,49 +266,56 @@ struct Counted {
     input: u64,
 }
 
-fn count(entries: u64, before: u64, memory: &mut [u8], store: &mut [u8]) -> Counted
+fn count(
+    rt: &impl Input,
+    entries: u64,
+    before: u64,
+    memory: &mut [u8],
+    store: &mut [u8],
+) -> io::Result<Counted>
     requires { before < 2 ^ 32 }
-    ensures { result.input < 2 ^ 32 }
+    ensures { IfOk result (λ counted. counted.input < 2 ^ 32) }
 {
     let mut good = 0;
     let mut input = before;
     let mut i = 0;
     while i < entries {
-        let taken = next(input);
+        let taken = next(rt, input)?;
         let entry = taken.entry;
         good += one_if(same(entry, memory, store));
         input = taken.input;
         i += 1;
     }
-    Counted { good, input }
+    Ok(Counted { good, input })
 }
 
-fn replay(name: &[u8], entries: u64, input: u64, memory: &mut [u8], store: &mut [u8]) -> u64
+fn replay(
+    rt: &(impl Input + Print),
+    name: &str,
+    entries: u64,
+    input: u64,
+    memory: &mut [u8],
+    store: &mut [u8],
+) -> io::Result<u64>
     requires { input < 2 ^ 32 }
-    ensures { result < 2 ^ 32 }
+    ensures { IfOk result (λ digest. digest < 2 ^ 32) }
 {
-    let counted = count(entries, input, memory, store);
-    io::write_all(STDOUT_FILENO, name);
-    io::print_decimal(STDOUT_FILENO, counted.good);
-    io::write_all(STDOUT_FILENO, b" of ");
-    io::print_decimal(STDOUT_FILENO, entries);
-    io::write_all(STDOUT_FILENO, b"\n");
-    counted.input
+    let counted = count(rt, entries, input, memory, store)?;
+    println!(rt; "{name}{} of {entries}", counted.good)?;
+    Ok(counted.input)
 }
 
-fn main() {
-    let mut memory = io::large_buffer();
-    let n = io::read_full(STDIN_FILENO, &mut memory);
+fn main(rt: HostRuntime) -> io::Result<()> {
+    let mut memory = [0u8; 65536];
+    let n = lines::read_full(&rt, &mut memory)?;
     let mut input = with_bytes(0, &memory[..n]);
     // 2^8 slots and 16 pages.
     let mut store = [0u8; 266_280];
-    input = replay(b"halfwords ", 1025, input, &mut memory, &mut store);
-    input = replay(b"words ", 2305, input, &mut memory, &mut store);
-    input = replay(b"blocks ", 193, input, &mut memory, &mut store);
-    input = replay(b"alu ", 1098, input, &mut memory, &mut store);
-    input = replay(b"cache ", 1951, input, &mut memory, &mut store);
+    input = replay(&rt, "halfwords ", 1025, input, &mut memory, &mut store)?;
+    input = replay(&rt, "words ", 2305, input, &mut memory, &mut store)?;
+    input = replay(&rt, "blocks ", 193, input, &mut memory, &mut store)?;
+    input = replay(&rt, "alu ", 1098, input, &mut memory, &mut store)?;
+    input = replay(&rt, "cache ", 1951, input, &mut memory, &mut store)?;
     // Any one byte that was changed, left out or added changes this.
-    io::write_all(STDOUT_FILENO, b"input ");
-    io::print_decimal(STDOUT_FILENO, next(input).input);
-    io::write_all(STDOUT_FILENO, b"\n");
+    println!(&rt; "input {}", next(&rt, input)?.input)
 }

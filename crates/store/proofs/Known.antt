@@ -41,7 +41,7 @@ unread_says s byte h =
 pub sized_are : (reading e base pages : ℕ) → reading ≤ 1 → sized e base pages ≡ true → Bounded (geometry reading e base pages)
 sized_are reading e base pages known h =
     let a = and_both (leb e 14) _ h in
-    let memory = block.good_memory {len = 4096 * pages} {base = base} a.1 in
+    let memory = block.good_memory_lem {len = 4096 * pages} {base = base} a.1 in
     record {
       known = known;
       few = leb-true _ _ a.0;

@@ -29,7 +29,7 @@ const READING_UNIT: u64 = 0x100_0000;
 const E_UNIT: u64 = 0x1_0000_0000_0000;
 
 // What a store's header says, and the bytes of a place.
-#[derive(Drop)]
+#[derive(Clone, Copy)]
 pub struct Geometry {
     pub reading: u64,
     pub e: u64,

@@ -2,7 +2,7 @@
 // A line of decoding shows a call's number and the lent bytes afterwards, which start as 170s; a line of the ALU the number and the value.
 #![tactic(auto)]
 
-use libc::STDOUT_FILENO;
+use std::io;
 
 // The readings, and a number that is none.
 const RUST: u64 = 0;
@@ -11,95 +11,93 @@ const MANUAL: u64 = 1;
 
 const NONE: u64 = 2;
 
-fn line(number: u64, lent: &[u8]) {
-    io::print_decimal(STDOUT_FILENO, number);
+fn line(rt: &impl Print, number: u64, lent: &[u8]) -> io::Result<()> {
+    print!(rt; "{number}")?;
     let mut i = 0;
     while i < lent.len() {
-        io::write_all(STDOUT_FILENO, b" ");
-        io::print_decimal(STDOUT_FILENO, bits::as_u64(lent[i]));
+        print!(rt; " {}", bits::as_u64(lent[i]))?;
         i += 1;
     }
-    io::write_all(STDOUT_FILENO, b"\n");
+    println!(rt;)
 }
 
-fn halfword(reading: u64, raw: u16) {
+fn halfword(rt: &impl Print, reading: u64, raw: u16) -> io::Result<()> {
     let mut lent = [170u8; 16];
     let answer = decode::decode_halfword(reading, raw, &mut lent);
-    line(answer.number(), &lent);
+    line(rt, answer.number(), &lent)
 }
 
-fn word(reading: u64, raw: u32) {
+fn word(rt: &impl Print, reading: u64, raw: u32) -> io::Result<()> {
     let mut lent = [170u8; 16];
     let answer = decode::decode_word(reading, raw, &mut lent);
-    line(answer.number(), &lent);
+    line(rt, answer.number(), &lent)
 }
 
 // A buffer of another length is refused ahead of anything but the reading.
-fn short(reading: u64, raw: u32) {
+fn short(rt: &impl Print, reading: u64, raw: u32) -> io::Result<()> {
     let mut lent = [170u8; 15];
     let answer = decode::decode_word(reading, raw, &mut lent);
-    line(answer.number(), &lent);
+    line(rt, answer.number(), &lent)
 }
 
-fn alu(kind: u64, lhs: u64, rhs: u64) {
+fn alu(rt: &impl Print, kind: u64, lhs: u64, rhs: u64) -> io::Result<()> {
     let answer = alu::alu_call(kind, lhs, rhs);
-    io::print_decimal(STDOUT_FILENO, answer.number());
-    io::write_all(STDOUT_FILENO, b" ");
-    io::print_decimal(STDOUT_FILENO, answer.value());
-    io::write_all(STDOUT_FILENO, b"\n");
+    let number = answer.number();
+    let value = answer.value();
+    println!(rt; "{number} {value}")
 }
 
-fn main() {
-    halfword(RUST, 0x0000);
-    halfword(RUST, 0x9002);
-    halfword(RUST, 0x8082);
-    word(RUST, 0x0010_0513);
-    word(RUST, 0xfff0_0513);
-    word(RUST, 0x6825_1513);
-    word(RUST, 0x6045_1513);
-    word(RUST, 0x6b85_5513);
-    word(RUST, 0x2875_5513);
-    word(RUST, 0x0ac5_d533);
-    word(RUST, 0x0ac5_e533);
+fn main(rt: HostRuntime) -> io::Result<()> {
+    halfword(&rt, RUST, 0x0000)?;
+    halfword(&rt, RUST, 0x9002)?;
+    halfword(&rt, RUST, 0x8082)?;
+    word(&rt, RUST, 0x0010_0513)?;
+    word(&rt, RUST, 0xfff0_0513)?;
+    word(&rt, RUST, 0x6825_1513)?;
+    word(&rt, RUST, 0x6045_1513)?;
+    word(&rt, RUST, 0x6b85_5513)?;
+    word(&rt, RUST, 0x2875_5513)?;
+    word(&rt, RUST, 0x0ac5_d533)?;
+    word(&rt, RUST, 0x0ac5_e533)?;
     // The same, in the manual's reading; one more of each entry that it has no op for; and what both read the same
-    word(MANUAL, 0x6825_1513);
-    word(MANUAL, 0x6045_1513);
-    word(MANUAL, 0x6b85_5513);
-    word(MANUAL, 0x2875_5513);
-    word(MANUAL, 0x0ac5_d533);
-    word(MANUAL, 0x0ac5_e533);
-    word(MANUAL, 0x6055_1513);
-    word(MANUAL, 0x6845_1513);
-    word(MANUAL, 0xd585_5513);
-    word(MANUAL, 0xd485_5513);
-    word(MANUAL, 0x5075_5513);
-    word(MANUAL, 0x0010_0513);
+    word(&rt, MANUAL, 0x6825_1513)?;
+    word(&rt, MANUAL, 0x6045_1513)?;
+    word(&rt, MANUAL, 0x6b85_5513)?;
+    word(&rt, MANUAL, 0x2875_5513)?;
+    word(&rt, MANUAL, 0x0ac5_d533)?;
+    word(&rt, MANUAL, 0x0ac5_e533)?;
+    word(&rt, MANUAL, 0x6055_1513)?;
+    word(&rt, MANUAL, 0x6845_1513)?;
+    word(&rt, MANUAL, 0xd585_5513)?;
+    word(&rt, MANUAL, 0xd485_5513)?;
+    word(&rt, MANUAL, 0x5075_5513)?;
+    word(&rt, MANUAL, 0x0010_0513)?;
     // One reserved halfword of each entry
-    halfword(RUST, 0x4002);
-    halfword(MANUAL, 0x2001);
-    halfword(MANUAL, 0x6101);
-    halfword(MANUAL, 0x6081);
-    halfword(MANUAL, 0x4002);
-    halfword(MANUAL, 0x6002);
-    halfword(MANUAL, 0x8002);
-    halfword(MANUAL, 0x8082);
-    short(RUST, 0x0010_0513);
-    short(RUST, 0x6045_1513);
-    short(MANUAL, 0x6045_1513);
+    halfword(&rt, RUST, 0x4002)?;
+    halfword(&rt, MANUAL, 0x2001)?;
+    halfword(&rt, MANUAL, 0x6101)?;
+    halfword(&rt, MANUAL, 0x6081)?;
+    halfword(&rt, MANUAL, 0x4002)?;
+    halfword(&rt, MANUAL, 0x6002)?;
+    halfword(&rt, MANUAL, 0x8002)?;
+    halfword(&rt, MANUAL, 0x8082)?;
+    short(&rt, RUST, 0x0010_0513)?;
+    short(&rt, RUST, 0x6045_1513)?;
+    short(&rt, MANUAL, 0x6045_1513)?;
     // No reading, ahead of the rest
-    word(NONE, 0x0010_0513);
-    halfword(NONE, 0x8082);
-    short(NONE, 0x0010_0513);
-    short(0xffff_ffff_ffff_ffff, 0x0010_0513);
+    word(&rt, NONE, 0x0010_0513)?;
+    halfword(&rt, NONE, 0x8082)?;
+    short(&rt, NONE, 0x0010_0513)?;
+    short(&rt, 0xffff_ffff_ffff_ffff, 0x0010_0513)?;
     // Sra, Addw, Clz, Clzw, OrcB, Sll by 64; then multiply, the last divide, and no kind at all
-    alu(7, 0x8000_0000_0000_0000, 1);
-    alu(10, 0x7fff_ffff, 1);
-    alu(39, 0, 0);
-    alu(42, 0, 0);
-    alu(49, 0x0100, 0);
-    alu(2, 12345, 64);
-    alu(15, 6, 7);
-    alu(27, 6, 7);
-    alu(58, 6, 7);
-    alu(0xffff_ffff_ffff_ffff, 6, 7);
+    alu(&rt, 7, 0x8000_0000_0000_0000, 1)?;
+    alu(&rt, 10, 0x7fff_ffff, 1)?;
+    alu(&rt, 39, 0, 0)?;
+    alu(&rt, 42, 0, 0)?;
+    alu(&rt, 49, 0x0100, 0)?;
+    alu(&rt, 2, 12345, 64)?;
+    alu(&rt, 15, 6, 7)?;
+    alu(&rt, 27, 6, 7)?;
+    alu(&rt, 58, 6, 7)?;
+    alu(&rt, 0xffff_ffff_ffff_ffff, 6, 7)
 }
