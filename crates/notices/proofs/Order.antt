@@ -33,7 +33,7 @@ in_names (b ∷ rest) a m =
 record Named (list : List ℕ) (page : ℕ) : Type 0 where
   address : ℕ
   member : Mem address list
-  in_page_lem : address / 4096 ≡ page
+  in_page : address / 4096 ≡ page
 
 named : (list : List ℕ) (page : ℕ) → names list page ≡ true → Named list page
 unfolding names
@@ -41,8 +41,8 @@ named [] page h = absurd (true_false h refl)
 named (a ∷ rest) page h = go (named rest page) (eqb (a / 4096) page) refl h
   where
     go : (names rest page ≡ true → Named rest page) → (t : Bool) → eqb (a / 4096) page ≡ t → (t || names rest page) ≡ true → Named (a ∷ rest) page
-    go later true e k = record { address = a; member = mem-cons_self; in_page_lem = eqb-true (a / 4096) page e }
-    go later false e k = let w = later k in record { address = w.address; member = mem-cons_of_mem a w.member; in_page_lem = w.in_page }
+    go later true e k = record { address = a; member = mem-cons_self; in_page = eqb-true (a / 4096) page e }
+    go later false e k = let w = later k in record { address = w.address; member = mem-cons_of_mem a w.member; in_page = w.in_page }
 
 names_more : (one two : List ℕ) (page : ℕ) → names two page ≡ true → names (one ++ two) page ≡ true
 unfolding names
