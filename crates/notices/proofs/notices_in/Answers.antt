@@ -1,0 +1,25 @@
+-- `notices::notices_in` meets its contract: after i turns the first i addresses are noticed and their reports summed.
+use Rattle.std.proofs.Common.{refl, ◌∙◌, arith}
+use Rattle.notices.specs.Notices.{noticed_all, report_all}
+use Rattle.notices.proofs.Sums.{noticed_more, report_more, sums_fit}
+use Rattle.notices.proofs.notices_in.Goals as goal
+
+pub loop-i-init : goal.loop-i-init
+unfolding noticed_all report_all
+loop-i-init c = (omega arith, c.nothing-report.ensures, refl)
+
+pub sum-report-requires : goal.sum-report-requires
+sum-report-requires c =
+    let l = c.loop-i in
+    let a = c.args in
+    sums_fit a.g a.store.now a.addresses.now l.i c.loop-i-test.true l.store l.invariant.2 _ _ l.invariant.1 c.notice_in.ensures.0 c.requires
+
+pub loop-i-preserved : goal.loop-i-preserved
+loop-i-preserved c =
+    let l = c.loop-i in
+    let a = c.args in
+    let more = c.loop-i-test.true in (
+      omega arith,
+      c.sum-report.ensures ∙ report_more a.g a.store.now a.addresses.now l.i more l.store l.invariant.2 _ _ l.invariant.1 c.notice_in.ensures.0,
+      c.notice_in.ensures.1 ∙ noticed_more a.g a.store.now a.addresses.now l.i more l.store l.invariant.2,
+    )
