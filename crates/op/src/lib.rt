@@ -10,7 +10,7 @@ ghost use Rattle.op.specs.WellFormed.{limits, within, ilen_known, op_well_formed
 
 use KindAt::{Known, Unknown};
 
-#[derive(Drop)]
+#[derive(Clone, Copy)]
 pub enum AluKind {
     Add,
     Sub,
@@ -72,7 +72,7 @@ pub enum AluKind {
     SlliUw,
 }
 
-#[derive(Drop)]
+#[derive(Clone, Copy)]
 pub enum LoadKind {
     Lb,
     Lbu,
@@ -83,7 +83,7 @@ pub enum LoadKind {
     Ld,
 }
 
-#[derive(Drop)]
+#[derive(Clone, Copy)]
 pub enum StoreKind {
     Sb,
     Sh,
@@ -91,7 +91,7 @@ pub enum StoreKind {
     Sd,
 }
 
-#[derive(Drop)]
+#[derive(Clone, Copy)]
 pub enum BranchKind {
     Beq,
     Bne,
@@ -101,7 +101,7 @@ pub enum BranchKind {
     Bgeu,
 }
 
-#[derive(Drop)]
+#[derive(Clone, Copy)]
 pub enum Op {
     Lui {
         rd: u8,
