@@ -5,7 +5,7 @@ ghost use Rattle.std.specs.Prelude.{◌≡◌};
 ghost use Rattle.answer.specs.Answer.{refusal_number, answer_number, valued_number, valued_value};
 
 // Why a call is refused. No refusal changes a lent byte.
-#[derive(Drop)]
+#[derive(Clone, Copy)]
 pub enum Refusal {
     NoStore,
     BadGeometry,
@@ -26,7 +26,7 @@ pub enum Answer {
 }
 
 // What a call answers that has a value beside its number.
-#[derive(Drop)]
+#[derive(Clone, Copy)]
 pub enum Valued {
     Value(u64),
     NoValue(Refusal),

@@ -19,20 +19,20 @@ pub enum Judged {
 }
 
 // What a notice did: the slots it examined, and the places it emptied.
-#[derive(Drop)]
+#[derive(Clone, Copy)]
 pub struct Report {
     pub examined: u64,
     pub dropped: u64,
 }
 
-#[derive(Drop)]
+#[derive(Clone, Copy)]
 pub enum LookupAnswer {
     Hit { at: usize, len: usize },
     LookupRefused(Refusal),
 }
 
 // What a notice answers, a list of them, and a guest write.
-#[derive(Drop)]
+#[derive(Clone, Copy)]
 pub enum ReportAnswer {
     Reported(Report),
     NotReported(Refusal),
