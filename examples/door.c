@@ -1,6 +1,7 @@
 /* Calls Unvriscol from C and prints the answers, which are those of examples/door.stdout. From a fresh clone:
  *
- *     rt staticlib unvriscol
+ *     (cd crates/unvriscol && rt lib)
+ *     mkdir -p target
  *     gcc -Wall -Wextra -Iinclude -o target/door examples/door.c crates/unvriscol/out/libunvriscol.a
  *     target/door
  */

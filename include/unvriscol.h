@@ -2,7 +2,8 @@
  * ends, and its number, what stands beside it and every lent byte afterwards are what docs/PROMISES.md says. docs/FORMATS.md has the formats with
  * drawings.
  *
- * Link target/staticlib/libunvriscol.a, which `rt staticlib unvriscol` writes, for x86-64 Linux. Of the C library it needs memcpy and memset.
+ * Link crates/unvriscol/out/libunvriscol.a, which `rt lib` in crates/unvriscol writes, for x86-64 Linux. Of the C library it needs memcpy, memmove and
+ * memset.
  * examples/door.c makes every call.
  *
  * What a call asks of its caller:

@@ -41,7 +41,9 @@ fn sources(root: &Path) -> Vec<PathBuf> {
         at += 1;
         let mut lines = text.lines().filter_map(|line| line.split_once(':'));
         // The door's line has the word staticlib behind its name.
-        if let Some((_, uses)) = lines.find(|(said, _)| said.split_whitespace().next() == Some(name)) {
+        if let Some((_, uses)) =
+            lines.find(|(said, _)| said.split_whitespace().next() == Some(name))
+        {
             needed.extend(uses.split_whitespace());
             let mut seen = HashSet::new();
             needed.retain(|name| seen.insert(*name));

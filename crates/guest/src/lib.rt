@@ -1,5 +1,5 @@
 // Guest memory as a struct that borrows its bytes beside their base, where the Rust has a bus, with two readers and `decode_block` over it. (system_bus.rs; block.rs, `decode_block(bus, pc)`)
-// Each takes the struct apart, and the work is done on the slice and the base. The borrow checker covers no function over such a struct, so their proofs are walks by hand.
+// Each takes the struct apart, and the work is done on the slice and the base.
 #![tactic(auto)]
 
 ghost use Rattle.std.specs.Prelude.{◌≡◌};

@@ -204,7 +204,7 @@ fn answers() {
         ("NothingFound", "UV_MISS", Error::Miss),
     ];
     let defined: Vec<(String, Vec<u64>)> = definitions
-        .clauses("refusalNumber")
+        .clauses("refusal_number")
         .iter()
         .map(|(left, right)| (left.trim().to_owned(), definitions.numbers_of(right)))
         .collect();
@@ -212,7 +212,7 @@ fn answers() {
     assert_eq!(here, defined[..]);
     let here = refusals.map(|(name, _, error)| (name.to_owned(), vec![error.number()]));
     assert_eq!(here, defined[..], "crate");
-    let (left, right) = &definitions.clauses("answerNumber")[0];
+    let (left, right) = &definitions.clauses("answer_number")[0];
     assert_eq!(left.trim(), "Done");
     assert_eq!(header.numbers("UV_DONE"), definitions.numbers_of(right));
 }
@@ -221,7 +221,7 @@ fn answers() {
 fn ops() {
     let (header, definitions) = (Header::new(), Definitions::new());
     let mut defined = Vec::new();
-    for (left, right) in definitions.clauses("opFields") {
+    for (left, right) in definitions.clauses("op_fields") {
         let name = words(left).next().expect("an op");
         let number = definitions.numbers_of(&right)[0];
         let record = [number as u8, 0, 0, 0, 0, 4, 0, 0, 0, 0, 0, 0, 0, 0, 0, 0];
@@ -244,11 +244,11 @@ fn kinds() {
         let numbered: Vec<Named> = in_c.zip(0..).collect();
         assert_eq!(Header::new().enumerators(tag), numbered);
     }
-    one("aluKinds", "uv_alu_kind", "UV_ALU_", AluKind::ALL);
-    one("loadKinds", "uv_load_kind", "UV_LOAD_", LoadKind::ALL);
-    one("storeKinds", "uv_store_kind", "UV_STORE_", StoreKind::ALL);
+    one("alu_kinds", "uv_alu_kind", "UV_ALU_", AluKind::ALL);
+    one("load_kinds", "uv_load_kind", "UV_LOAD_", LoadKind::ALL);
+    one("store_kinds", "uv_store_kind", "UV_STORE_", StoreKind::ALL);
     one(
-        "branchKinds",
+        "branch_kinds",
         "uv_branch_kind",
         "UV_BRANCH_",
         BranchKind::ALL,
@@ -263,8 +263,8 @@ fn readings() {
     assert_eq!(numbers, in_c);
     assert_eq!(numbers.map(|n| Reading::ALL[n as usize].number()), numbers);
     // The highest that is known, and the one that is the manual's.
-    assert_eq!(definitions.numbers("readingKnown"), [numbers[1]]);
-    let body = definitions.body("readingOf");
+    assert_eq!(definitions.numbers("reading_known"), [numbers[1]]);
+    let body = definitions.body("reading_of");
     assert_eq!(
         words(&body).collect::<Vec<_>>(),
         ["cond", "eqb", "n", "1", "manual", "rust"]
@@ -311,7 +311,7 @@ fn the_op_record() {
         ("imm", "UV_OP_AT_IMM"),
         ("end", "UV_OP_RECORD"),
     ];
-    header.hold(&layout(&definitions.body("opBytes")), &names);
+    header.hold(&layout(&definitions.body("op_bytes")), &names);
     assert_eq!(header.number("UV_OP_RECORD"), DecodedInsn::LEN as u64);
 }
 
@@ -324,14 +324,14 @@ fn the_block_record() {
         ("len", "UV_BLOCK_AT_BYTE_LEN"),
         ("end", "UV_BLOCK_AT_OPS"),
     ];
-    header.hold(&layout(&definitions.body("headBytes")), &names);
+    header.hold(&layout(&definitions.body("head_bytes")), &names);
 
     let [address, count, len, ops] = names.map(|(_, name)| header.number(name));
     let [record, op, most, page] = ["UV_BLOCK_RECORD", "UV_OP_RECORD", "UV_MAX_OPS", "UV_PAGE"]
         .map(|name| header.number(name));
     // Length, address, the four zeros, the count of ops, byte_len within the page, the ops.
     assert_eq!(
-        definitions.numbers("wellFormed"),
+        definitions.numbers("well_formed"),
         [
             record, address, 12, 0, 1, count, count, most, page, len, page, ops, count, 0, len
         ]
@@ -367,7 +367,7 @@ fn the_store() {
     let record = header.numbers("UV_BLOCK_RECORD");
     assert_eq!(record, definitions.numbers("geometry"));
     // By 2, and into 2^e, which C has as 1 << e.
-    let slot = [definitions.numbers("slotOf")[0], 1];
+    let slot = [definitions.numbers("slot_of")[0], 1];
     assert_eq!(header.numbers("UV_SLOT"), slot);
 }
 
@@ -380,7 +380,7 @@ fn the_bounds() {
     };
     // Whole pages from a page's start, at least one and at most so many, up to 2^56.
     assert_eq!(
-        definitions.numbers("goodMemory"),
+        definitions.numbers("good_memory"),
         [page, 0, page, 0, page, pages, page, 2, bits]
     );
     assert_eq!(definitions.numbers("sized"), [e, page]);

@@ -1,3 +1,0 @@
--- What the crate's proofs share.
-pub mod Apart
-pub mod Reader
