@@ -92,8 +92,8 @@ pub fn list(rt: &impl Print, reading: u64, page: &[u8]) -> io::Result<()> {
     end_line(rt, at)
 }
 
-// Reads standard input until buf is full or the input ends, and answers how many bytes it put at the start of buf. It takes no byte that it does not
-// put there, so that the next call goes on behind the last.
+// Reads standard input until buf is full or the input ends, and answers how many bytes it put at the start of buf. A HostRuntime's reader takes no byte
+// that it does not put there, so that the next call goes on behind the last.
 pub fn read_full(rt: &impl Input, buf: &mut [u8]) -> io::Result<usize>
     ensures { IfOk result (λ n. n ≤ length buf.new) }
 {

@@ -317,5 +317,5 @@ fn main(rt: HostRuntime) -> io::Result<()> {
     input = replay(&rt, "alu ", 1098, input, &mut memory, &mut store)?;
     input = replay(&rt, "cache ", 1951, input, &mut memory, &mut store)?;
     // Any one byte that was changed, left out or added changes this.
-    println!(&rt; "input {}", next(&rt, input)?.input)
+    println!(rt; "input {}", next(&rt, input)?.input)
 }
