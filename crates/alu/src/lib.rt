@@ -1,5 +1,5 @@
 // The ALU without multiply and divide: by a kind, and by a kind's number. (block.rs, `alu`)
-// The helpers stand for what Rust has as casts and methods: a cast here loses no bit, and numbers have no methods.
+// The helpers stand for what Rust has as casts, since a cast here loses no bit, and as methods that count, turn and swap.
 #![tactic(auto)]
 
 ghost use Rattle.std.specs.Prelude.{◌≡◌, ◌-◌, ◌%◌, ◌^◌, ◌<◌, ◌≤◌, min, max};
