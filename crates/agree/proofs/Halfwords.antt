@@ -1,21 +1,16 @@
--- At every halfword of an entry the Rust and the manual read what the entry says, and outside the entries they read each halfword alike.
+-- Outside the entries the Rust and the manual read each halfword alike; at every entry they differ.
 -- The quadrant and funct3 pick a row in each reading; row by row the manual's figures give the Rust's sums.
 -- Assumes nothing.
-use mathlib.Core.Path.{◌≡◌, refl, sym, ap, ◌∙◌}
-use mathlib.Core.Bool.{Bool, true, false, cond, not, ◌&&◌, ◌||◌, true≢false}
-use Prim.Native.Nat.{ℕ, ◌+◌, ◌*◌, ◌/◌, ◌<◌}
-use native.Mathlib.Nat.{div-div-eq-div-mul}
+use mathlib.Core.Path.{◌≡◌, refl, ap, ◌∙◌}
+use mathlib.Core.Bool.{Bool, true, false, cond, ◌&&◌, ◌||◌, true≢false}
+use Prim.Native.Nat.{ℕ, ◌+◌, ◌*◌, ◌<◌}
 use native.Mathlib.Omega.{arith}
 use lib.Dec.{eqb}
-use lib.IntN.{pos}
-use borrow.Author.Tests.{ne_eqb, eqb-true}
+use borrow.Author.Tests.{ne_eqb}
 use Rattle.bits.specs.Bits.{bits_at}
 use Rattle.bits.specs.Match.{case}
 use Rattle.bits.proofs.Every.{each}
-use Rattle.bits.proofs.Tests.{and_both}
-use Rattle.op.specs.declared.AluKind.TheVariants.{Add}
 use Rattle.op.specs.declared.Op.{Op}
-use Rattle.op.specs.declared.Op.TheVariants.{Lui, AluImm, Jalr}
 use Rattle.op.specs.declared.Decoded.{Decoded}
 use Rattle.op.specs.declared.Decoded.TheVariants.{Some, None}
 use Rattle.halfword.specs.Instruction.{rd, rs2}
@@ -23,8 +18,9 @@ use Rattle.halfword.specs.Halfword as rust
 use Rattle.halfword.specs.Halfword.{half_at, rust_half}
 use Rattle.manual.specs.Halfwords as manual
 use Rattle.manual.specs.Halfwords.{half_by, manual_half}
-use Rattle.agree.specs.Differences.{listed, Told, amended, row, imm0, half_entries}
-use Rattle.agree.proofs.Entries.{fields, lead, differ_by, manual_by, silent}
+use Rattle.agree.specs.Differences.{listed, amended, half_entries}
+use Rattle.agree.proofs.Entries.{lead, differ_by, manual_by, silent}
+use Rattle.agree.proofs.ToldHalfwords.{addi16sp, lui, pieces, told}
 
 -- the figures
 addi4spn : (w : ℕ) → rust.nzuimm_addi4spn w ≡ manual.addi4spn w
@@ -38,12 +34,6 @@ ld w = omega arith
 
 imm6 : (w : ℕ) → rust.imm6 w ≡ manual.imm6 w
 imm6 w = omega arith
-
-addi16sp : (w : ℕ) → rust.imm_addi16sp w ≡ manual.addi16sp w
-addi16sp w = omega arith
-
-lui : (w : ℕ) → rust.imm_lui w ≡ manual.lui w
-lui w = omega arith
 
 j : (w : ℕ) → rust.off_j w ≡ manual.j w
 j w = omega arith
@@ -79,15 +69,6 @@ not_asked false y h = refl
 not-both : (w : ℕ) (two : Bool) → Free w 1 3 → eqb (rd w) 2 ≡ two → bits_at w 12 1 ≡ 0 → bits_at w 2 5 ≡ 0 → ⊥
 not-both w true h e x y = true≢false (rw (h.0, h.1, x, y, e) at h.2)
 not-both w false h e x y = true≢false (rw (h.0, h.1, x, y, e) at h.2)
-
-pieces : (w : ℕ) → bits_at w 2 5 ≡ bits_at w 6 1 * 16 + bits_at w 5 1 * 8 + bits_at w 3 2 * 2 + bits_at w 2 1
-pieces w =
-    let a : w / 4 / 2 ≡ w / 8 = div-div-eq-div-mul w 4 2 in
-    let b : w / 8 / 4 ≡ w / 32 = div-div-eq-div-mul w 8 4 in
-    let c : w / 32 / 2 ≡ w / 64 = div-div-eq-div-mul w 32 2 in
-    let d : w / 64 / 2 ≡ w / 128 = div-div-eq-div-mul w 64 2 in
-    let e : w / 4 / 32 ≡ w / 128 = div-div-eq-div-mul w 4 32 in
-    omega arith
 
 wide : (w : ℕ) → Alike w 1 3
 wide w h =
@@ -154,42 +135,6 @@ alike w q f3 hq h3 = each 4 (λ q. Alike w q f3) ((((tt, quadrant0 w f3 h3), qua
 
 pub agree : (w : ℕ) → listed half_entries w ≡ false → rust_half w ≡ manual_half w
 agree w e = alike w (bits_at w 0 2) (bits_at w 13 3) (omega arith) (omega arith) (refl, refl, e)
-
--- an entry's row in both readings, where what it asks there holds
-abbrev AtRow : ℕ → ℕ → ℕ → Decoded → Decoded → Type 0
-AtRow q f3 w rust manual = (half_at (q * 0x10 + f3) w ≡ rust) × (half_by q f3 w ≡ manual)
-
-at_row : (q f3 : ℕ) (asked : ℕ → Bool) (rust manual : ℕ → Decoded) → ((w : ℕ) → asked w ≡ true → AtRow q f3 w (rust w) (manual w))
-    → (w : ℕ) → row q f3 asked w ≡ true → (rust_half w ≡ rust w) × (manual_half w ≡ manual w)
-at_row q f3 asked rust manual shown w h = let k = fields (bits_at w 0 2) q (bits_at w 13 3) f3 (asked w) h in rw (k.0, k.1) (shown w k.2)
-
-no_imm : (w : ℕ) → imm0 w ≡ true → (manual.addi16sp w ≡ 0) × (manual.lui w ≡ 0)
-no_imm w h =
-    let k = and_both (eqb (bits_at w 12 1) 0) (eqb (bits_at w 2 5) 0) h in
-    let x = eqb-true (bits_at w 12 1) 0 k.0 in
-    let y = eqb-true (bits_at w 2 5) 0 k.1 in
-    let s = pieces w in
-    (omega arith, omega arith)
-
-addi16sp_0 : (w : ℕ) → (eqb (rd w) 2 && imm0 w) ≡ true → AtRow 1 3 w (Some (AluImm Add 2 2 (pos 0))) None
-addi16sp_0 w h =
-    let k = and_both (eqb (rd w) 2) (imm0 w) h in
-    rw (k.0, addi16sp w, (no_imm w k.1).0) (refl, refl)
-
-lui_0 : (w : ℕ) → (not (eqb (rd w) 2) && imm0 w) ≡ true → AtRow 1 3 w (Some (Lui (rd w) (pos 0))) None
-lui_0 w h =
-    let k = and_both (not (eqb (rd w) 2)) (imm0 w) h in
-    rw (is_false (eqb (rd w) 2) k.0, lui w, (no_imm w k.1).1) (refl, refl)
-  where
-    is_false : (b : Bool) → not b ≡ true → b ≡ false
-    is_false true h = sym h
-    is_false false h = refl
-
-jr_0 : (w : ℕ) → (eqb (bits_at w 12 1) 0 && eqb (rs2 w) 0 && eqb (rd w) 0) ≡ true → AtRow 2 4 w (Some (Jalr 0 0 (pos 0))) None
-jr_0 w h = let k = fields (bits_at w 12 1) 0 (rs2 w) 0 (eqb (rd w) 0) h in rw (k.0, k.1, eqb-true (rd w) 0 k.2) (refl, refl)
-
-pub told : Told half_entries rust_half manual_half
-told = (refl, at_row 1 1 _ _ _ (λ w h. rw (eqb-true (rd w) 0 h) (refl, refl)), (refl, at_row 1 3 _ _ _ addi16sp_0, (refl, at_row 1 3 _ _ _ lui_0, (refl, at_row 2 2 _ _ _ (λ w h. rw (eqb-true (rd w) 0 h) (refl, refl)), (refl, at_row 2 3 _ _ _ (λ w h. rw (eqb-true (rd w) 0 h) (refl, refl)), (refl, at_row 2 4 _ _ _ jr_0, tt))))))
 
 -- in the op or its kind, or in having one
 pub unlike : (w : ℕ) → listed half_entries w ≡ true → lead (rust_half w) ≡ lead (manual_half w) → ⊥

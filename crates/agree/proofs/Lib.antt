@@ -7,6 +7,8 @@ mod AluCounts
 mod AluSigns
 pub mod Entries
 mod Formats
+pub mod ToldHalfwords
+pub mod ToldWords
 pub mod Halfwords
 pub mod Words
 pub mod ShortList

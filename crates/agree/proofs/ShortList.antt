@@ -23,7 +23,8 @@ use Rattle.manual.specs.Halfwords.{manual_half}
 use Rattle.agree.specs.Differences.{listed, row, imm0, addiw0, addi16sp0, lui0, lwsp0, ldsp0, jr0}
 use Rattle.agree.specs.ShortList.{short_entries, missed_entries, short_half, missed_op}
 use Rattle.agree.proofs.Entries.{lead, fields, two_ask}
-use Rattle.agree.proofs.Halfwords.{told, half_is}
+use Rattle.agree.proofs.Halfwords.{half_is}
+use Rattle.agree.proofs.ToldHalfwords.{told}
 
 -- by the short list 0x6101 is the op that 0x0101 is to the manual: no record tells them apart, the memory does
 pub twins : (short_half 0x6101 ≡ short_half 0x0101) × (manual_half 0x0101 ≡ short_half 0x0101) × (manual_half 0x6101 ≡ None)

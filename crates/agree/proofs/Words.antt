@@ -1,24 +1,22 @@
--- At every word of an entry the Rust and the manual read what the entry says, and outside the entries they read each word alike.
+-- Outside the entries the Rust and the manual read each word alike; at every entry they differ.
 -- Both formats are functions of opcode, funct3, bits 31 to 25 and bits 24 to 20. antt computes the test `right` at the numbers that
 -- decide, with the fields that do not matter left open.
 -- Assumes nothing.
 use mathlib.Core.Path.{◌≡◌, refl, ap, ◌∙◌}
 use mathlib.Core.Bool.{Bool, true, false, not, ◌||◌, ◌&&◌}
 use mathlib.Core.List.{List, [], ◌∷◌}
-use Prim.Native.Nat.{ℕ, ◌+◌, ◌*◌, ◌/◌, ◌%◌, ◌^◌, ◌<◌}
-use native.Mathlib.Nat.{div-div-eq-div-mul}
+use Prim.Native.Nat.{ℕ, ◌+◌, ◌*◌, ◌^◌, ◌<◌}
 use native.Mathlib.Omega.{arith}
 use lib.Dec.{T, eqb}
-use borrow.Author.Tests.{ne_eqb, eqb-true}
+use borrow.Author.Tests.{ne_eqb}
 use Rattle.bits.specs.Bits.{bits_at}
 use Rattle.bits.proofs.Every.{every, at, at_three, decide}
-use Rattle.word.specs.declared.Form.{Form}
-use Rattle.word.specs.Word as rust
 use Rattle.word.specs.Word.{form_by, form_of, rust_word}
-use Rattle.manual.specs.Words.{Format, format_by, manual_word, op_of}
-use Rattle.agree.specs.Differences.{listed, Told, amended, imm, reg, word_entries}
-use Rattle.agree.proofs.Entries.{fields, lead, differ_by, manual_by}
+use Rattle.manual.specs.Words.{format_by, manual_word, op_of}
+use Rattle.agree.specs.Differences.{listed, amended, word_entries}
+use Rattle.agree.proofs.Entries.{lead, differ_by, manual_by}
 use Rattle.agree.proofs.Formats.{named, operands, same, same_is}
+use Rattle.agree.proofs.ToldWords.{top_is, told}
 
 -- a word with these fields
 abbrev word_of : ℕ → ℕ → ℕ → ℕ → ℕ
@@ -151,36 +149,10 @@ module _ (op f3 f7 rs2 : ℕ) (ho : op < 128) (h3 : f3 < 8) (h7 : f7 < 128) (h2 
       same_is form format
       (without (same form format) (listed word_entries (word_of op f3 f7 rs2)) rule (rw (of_opcode, of_funct3, of_funct7, of_top) (rw (a, b, c, d) at e)))
 
--- bits 31 to 20 in two parts
-top_is : (w : ℕ) → bits_at w 20 12 ≡ bits_at w 25 7 * 32 + bits_at w 20 5
-top_is w = let e : w / 2 ^ 20 / 2 ^ 5 ≡ w / 2 ^ 25 = div-div-eq-div-mul w (2 ^ 20) (2 ^ 5) in omega arith
-
 pub agree : (w : ℕ) → listed word_entries w ≡ false → rust_word w ≡ manual_word w
 agree w e =
     operands w (form_of w)
     ∙ ap (op_of w) (alike (bits_at w 0 7) (bits_at w 12 3) (bits_at w 25 7) (bits_at w 20 5) (omega arith) (omega arith) (omega arith) (omega arith) w refl refl refl (top_is w) e)
-
--- the fields that an entry asks for decide form and format
-abbrev Reads : ℕ → Form → Format → Type 0
-Reads w form format = (rust_word w ≡ rust.op_of w form) × (manual_word w ≡ op_of w format)
-
-at-imm : (f3 top w : ℕ) → imm f3 top w ≡ true → Reads w (form_by 0x13 f3 (top / 32) (top % 32)) (format_by 0x13 f3 (top / 32) (top % 32))
-at-imm f3 top w h =
-    let k = fields (bits_at w 0 7) 0x13 (bits_at w 12 3) f3 (eqb (bits_at w 20 12) top) h in
-    let t = eqb-true (bits_at w 20 12) top k.2 in
-    let s = top_is w in
-    let a : bits_at w 25 7 ≡ top / 32 = omega arith in
-    let b : bits_at w 20 5 ≡ top % 32 = omega arith in
-    rw (k.0, k.1, a, b) (refl, refl)
-
-at_reg : (f3 f7 w : ℕ) → reg f3 f7 w ≡ true → Reads w (form_by 0x33 f3 f7 (bits_at w 20 5)) (format_by 0x33 f3 f7 (bits_at w 20 5))
-at_reg f3 f7 w h =
-    let k = fields (bits_at w 0 7) 0x33 (bits_at w 12 3) f3 (eqb (bits_at w 25 7) f7) h in
-    rw (k.0, k.1, eqb-true (bits_at w 25 7) f7 k.2) (refl, refl)
-
-pub told : Told word_entries rust_word manual_word
-unfolding form_by format_by
-told = (refl, at-imm 1 0x682, (refl, at-imm 1 0x684, (refl, at-imm 1 0x604, (refl, at-imm 1 0x605, (refl, at-imm 5 0xd58, (refl, at-imm 5 0xd48, (refl, at-imm 5 0x507, (refl, at-imm 5 0x6b8, (refl, at-imm 5 0x287, (refl, at_reg 5 5, (refl, at_reg 6 5, tt)))))))))))
 
 -- in the op or its kind, or in having one
 pub unlike : (w : ℕ) → listed word_entries w ≡ true → lead (rust_word w) ≡ lead (manual_word w) → ⊥
