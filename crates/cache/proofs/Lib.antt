@@ -3,3 +3,4 @@ pub mod Checks
 pub mod View
 pub mod Reports
 pub mod Order
+pub mod FlushAfter

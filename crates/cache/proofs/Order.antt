@@ -1,4 +1,4 @@
--- The order of notices: in either order two leave the same store and the same sums, a second in the same page is nothing, and none shows after a flush.
+-- The order of notices: in either order two leave the same store and the same sums, a second in the same page is nothing; and two flushes are one.
 -- On any bytes: where the header check refuses, all of them change nothing.
 -- Assumes nothing.
 use mathlib.Core.Path.{◌≡◌, refl, sym, ap, ap₂, ◌∙◌}
@@ -184,12 +184,7 @@ module _ (s : List ℕ) (a b : ℕ) where
     pub notice_again_none : reported (notice_call (notice_call s a).1 b).0 ≡ nothing_done
     notice_again_none = rw (second s a b) (on_any_bytes s (λ o. reported (notice_by o (notice_by o s a).1 b).0 ≡ nothing_done) (λ g f. report_again g s f a b same) refl)
 
--- a flush after a notice is the flush alone, and two flushes are one: the answer and every byte
-pub flush_after_notice : (s : List ℕ) (a : ℕ) → flush_call (notice_call s a).1 ≡ flush_call s
-flush_after_notice s a =
-    rw (notice-opened s a)
-    (on_any_bytes s (λ o. flush_by o (notice_by o s a).1 ≡ flush_by o s) (λ g f. ap (λ (head : List ℕ). (Done, head ++ blank g)) (head_noticed g s f a)) refl)
-
+-- two flushes are one: the answer and every byte
 pub flush-opened : (s : List ℕ) → opened (flush_call s).1 ≡ opened s
 flush-opened s = on_any_bytes s (λ o. opened (flush_by o s).1 ≡ opened s) (λ g f. opened-flushed g s f) refl
 

@@ -7,4 +7,6 @@ pub mod Seal
 pub mod FormedWell
 pub mod Taken
 pub mod TwoReadings
+pub mod Parts
+pub mod SameBlock
 pub mod ShortList

@@ -20,28 +20,16 @@ use Rattle.op.specs.declared.Decoded.TheVariants.{Some, None}
 use Rattle.halfword.specs.Instruction.{rd}
 use Rattle.agree.specs.Differences.{listed}
 use Rattle.agree.specs.ShortList.{missed_entries, missed_op}
-use Rattle.agree.proofs.ShortList.{short_alike, short_unlike, short-reads, missed_reads}
+use Rattle.agree.proofs.ShortList.{short-reads, missed_reads}
 use Rattle.reading.specs.Readings.{manual, reading_of}
-use Rattle.reading.proofs.Proper.{word_proper}
 use Rattle.block.specs.Memory.{rest_of_page}
 use Rattle.block.specs.Record.{Insn, insn, byte_len, block_record}
 use Rattle.block.specs.WellFormed.{jumps}
 use Rattle.form.specs.Forming.{ilen_at, op_at, ops_from, formed}
 use Rattle.form.specs.Call.{form_judged, formed_into, form_call}
 use Rattle.form.specs.ShortList.{short, form_short, missed_at, meets_missed}
-use Rattle.form.proofs.TwoReadings.{Part, parted_alike, ends_before, forms_alike, forms_alike_only}
-
--- the manual's reading and the short list's part at the missed halfwords, and at no word
-missed_part : Part manual short (listed missed_entries) (λ w. false)
-unfolding reading_of
-missed_part =
-    record {
-      half_alike = short_alike;
-      half_unlike = short_unlike;
-      word_alike = λ w h. refl;
-      word_unlike = λ w h. absurd (true_false h refl);
-      word_proper = λ w. (word_proper 1 w, word_proper 1 w);
-    }
+use Rattle.form.proofs.Parts.{missed_part}
+use Rattle.form.proofs.TwoReadings.{parted_alike, ends_before, forms_alike, forms_alike_only}
 
 -- what stands at a missed halfword's offset
 module _ (s : List ℕ) (at : ℕ) (h : missed_at s at ≡ true) where

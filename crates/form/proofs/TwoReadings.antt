@@ -1,5 +1,4 @@
 -- Forming in two readings: the blocks are the same where the walk meets nothing at which the readings part, and other blocks where it does.
--- Then for the Rust's reading and the manual's, which part at the entries of docs/DIFFERENCES.md.
 -- Assumes nothing.
 use mathlib.Core.Path.{◌≡◌, refl, sym, ap, ap₂, ◌∙◌}
 use mathlib.Core.Bool.{Bool, true, false, cond, ◌||◌}
@@ -21,19 +20,15 @@ use Rattle.op.specs.declared.Op.TheVariants.{Fallback}
 use Rattle.op.specs.declared.Decoded.{Decoded}
 use Rattle.op.specs.declared.Decoded.TheVariants.{Some, None}
 use Rattle.op.proofs.Record.{length_record}
-use Rattle.agree.specs.Differences.{listed, word_entries, half_entries}
 use Rattle.agree.proofs.Entries.{lead}
-use Rattle.agree.proofs.Words as words
-use Rattle.agree.proofs.Halfwords as halves
-use Rattle.reading.specs.Readings.{rust, manual, reading_of}
-use Rattle.reading.proofs.Proper.{ProperIn, word_proper}
+use Rattle.reading.proofs.Proper.{ProperIn}
 use Rattle.block.specs.Memory.{rest_of_page}
 use Rattle.block.specs.Record.{Insn, insn, op_records, byte_len}
 use Rattle.block.specs.WellFormed.{jumps}
 use Rattle.block.proofs.Records.{record_tells}
 use Rattle.form.specs.Forming.{stops_block, or_fallback, ilen_at, op_at, and_then, ops_from, formed}
-use Rattle.form.specs.Walk.{goes_on, meets, stands_at, walk_meets, meets_difference}
-use Rattle.form.specs.Call.{form_judged, formed_into, form_call}
+use Rattle.form.specs.Walk.{goes_on, meets, stands_at, walk_meets}
+use Rattle.form.specs.Call.{formed_into}
 use Rattle.form.proofs.Judged.{not_done}
 
 neither : (a b : Bool) → (a || b) ≡ false → (a ≡ false) × (b ≡ false)
@@ -234,28 +229,3 @@ module _ {r r' : Reading} {half word : ℕ → Bool} (p : Part r r' half word) w
         let t = into_tells address lent (ops_from r s 64 0) (ops_from r' s 64 0) (ops_few r s 64 0) (ops_few r' s 64 0) e in
         not_true (walk_meets parted r memory base address)
         (λ h. other_records r r' s (parted s) (parted_alike s) (parted_unlike s) 64 0 _ _ h t.0 t.1)
-
--- the Rust's reading and the manual's part at the entries
-entries_part : Part rust manual (listed half_entries) (listed word_entries)
-unfolding reading_of
-entries_part =
-    record {
-      half_alike = halves.agree;
-      half_unlike = halves.unlike;
-      word_alike = words.agree;
-      word_unlike = words.unlike;
-      word_proper = λ w. (word_proper 0 w, word_proper 1 w);
-    }
-
--- for whoever moves a plant from one reading to the other
-module _ (memory : List ℕ) (base address : ℕ) (lent : List ℕ) where
-  -- a block whose walk meets no entry is the same in both
-  pub same_block : meets_difference memory base address ≡ false → form_call 0 memory base address lent ≡ form_call 1 memory base address lent
-  unfolding form_call reading_of
-  same_block = forms_alike entries_part memory base address lent (form_judged 0 (length memory) (length lent) base address)
-
-  -- and one that is the same met none
-  pub same_block_only : form_judged 0 (length memory) (length lent) base address ≡ Done → form_call 0 memory base address lent ≡ form_call 1 memory base address lent
-      → meets_difference memory base address ≡ false
-  unfolding form_call reading_of
-  same_block_only judged e = forms_alike_only entries_part memory base address lent (rw judged at e)

@@ -17,7 +17,8 @@ use Rattle.cache.specs.declared.Report.{Report}
 use Rattle.cache.specs.declared.ReportAnswer.TheVariants.{Reported}
 use Rattle.cache.proofs.Reports.{none-summed, summed_assoc}
 use Rattle.cache.proofs.View.{fitting_noticed, report_apart}
-use Rattle.cache.proofs.Order.{noticed_alike, report_alike, noticed_again, report_again, noticed_comm, report_comm, on_any_bytes, notice-opened, flush_after_notice}
+use Rattle.cache.proofs.Order.{noticed_alike, report_alike, noticed_again, report_again, noticed_comm, report_comm, on_any_bytes, notice-opened}
+use Rattle.cache.proofs.FlushAfter.{flush_after_notice}
 use Rattle.notices.specs.Notices.{noticed_all, report_all, notices_by, notices_call}
 use Rattle.notices.specs.Pages.{names, report_once}
 
