@@ -1,12 +1,16 @@
--- The number of each answer (docs/FORMATS.md), and the value beside it, which is 0 beside every number but 0.
+-- What a call answers, and the number of each answer (docs/FORMATS.md).
 -- Assumes nothing.
-use Rattle.std.specs.Prelude.{ℕ}
+use Rattle.std.specs.Prelude.{ℕ, Result, Ok, Err}
 use Rattle.answer.specs.declared.Refusal.{Refusal}
 use Rattle.answer.specs.declared.Refusal.TheVariants.{NoStore, BadGeometry, OutsideMemory, NoOp, IllFormed, WrongBuffer, NoKind, WrongWriteSize, NothingFound}
-use Rattle.answer.specs.declared.Answer.{Answer}
-use Rattle.answer.specs.declared.Answer.TheVariants.{Done, Refused}
-use Rattle.answer.specs.declared.Valued.{Valued}
-use Rattle.answer.specs.declared.Valued.TheVariants.{Value, NoValue}
+
+-- a value, or why the call is refused
+abbrev pub Answer : Type 0 → Type 0
+Answer T = Result T Refusal
+
+-- of a call that has nothing beside its number, the answer where it was done
+abbrev pub done : Answer (Unit {0})
+done = Ok tt
 
 abbrev pub refusal_number : Refusal → ℕ
 refusal_number NoStore = 1
@@ -19,14 +23,11 @@ refusal_number NoKind = 7
 refusal_number WrongWriteSize = 8
 refusal_number NothingFound = 9
 
-abbrev pub answer_number : Answer → ℕ
-answer_number Done = 0
-answer_number (Refused why) = refusal_number why
+abbrev pub answer_number : {T : Type 0} → Answer T → ℕ
+answer_number (Ok value) = 0
+answer_number (Err why) = refusal_number why
 
-abbrev pub valued_number : Valued → ℕ
-valued_number (Value x) = 0
-valued_number (NoValue why) = refusal_number why
-
-abbrev pub valued_value : Valued → ℕ
-valued_value (Value x) = x
-valued_value (NoValue why) = 0
+-- the number beside an answer's, which is 0 beside every number but 0
+abbrev pub answer_value : Answer ℕ → ℕ
+answer_value (Ok value) = value
+answer_value (Err why) = 0

@@ -1,13 +1,13 @@
-// What a call answers: that it is done, or why it is refused, with the number for each (docs/FORMATS.md, Answer numbers). Every refusal is one of these.
+// What a call answers: its value, or why it is refused, and the number for each (docs/FORMATS.md, Answer numbers). Every refusal is one of these.
 #![tactic(auto)]
 
 ghost use Rattle.std.specs.Prelude.{◌≡◌};
-ghost use Rattle.answer.specs.Answer.{refusal_number, answer_number, valued_number, valued_value};
+ghost use Rattle.answer.specs.Answer.{refusal_number, answer_number, answer_value};
 
 // Why a call is refused. No refusal changes a lent byte.
 #[derive(Clone, Copy)]
 pub enum Refusal {
-    NoStore,
+    NoStore = 1,
     BadGeometry,
     OutsideMemory,
     NoOp,
@@ -18,66 +18,31 @@ pub enum Refusal {
     NothingFound,
 }
 
-// What a call answers that has nothing beside its number.
-#[derive(Drop)]
-pub enum Answer {
-    Done,
-    Refused(Refusal),
-}
-
-// What a call answers that has a value beside its number.
-#[derive(Clone, Copy)]
-pub enum Valued {
-    Value(u64),
-    NoValue(Refusal),
-}
+// What a call answers: `()` where it has nothing beside its number.
+pub type Answer<T> = Result<T, Refusal>;
 
 impl Refusal {
     // As C and Rust see it.
     pub fn number(self) -> u64
         ensures { result ≡ refusal_number self }
     {
-        match self {
-            Self::NoStore => 1,
-            Self::BadGeometry => 2,
-            Self::OutsideMemory => 3,
-            Self::NoOp => 4,
-            Self::IllFormed => 5,
-            Self::WrongBuffer => 6,
-            Self::NoKind => 7,
-            Self::WrongWriteSize => 8,
-            Self::NothingFound => 9,
-        }
+        self as u64
     }
 }
 
-impl Answer {
-    pub fn number(self) -> u64
-        ensures { result ≡ answer_number self }
-    {
-        match self {
-            Self::Done => 0,
-            Self::Refused(why) => why.number(),
-        }
+// An answer's number: 0 where the call was done.
+pub fn number<T>(answer: &Answer<T>) -> u64
+    ensures { result ≡ answer_number answer.now }
+{
+    match answer {
+        Ok(_) => 0,
+        Err(why) => why.number(),
     }
 }
 
-impl Valued {
-    pub fn number(self) -> u64
-        ensures { result ≡ valued_number self }
-    {
-        match self {
-            Self::Value(_) => 0,
-            Self::NoValue(why) => why.number(),
-        }
-    }
-
-    pub fn value(self) -> u64
-        ensures { result ≡ valued_value self }
-    {
-        match self {
-            Self::Value(x) => x,
-            Self::NoValue(_) => 0,
-        }
-    }
+// The number beside an answer's: 0 beside every number but 0.
+pub fn value(answer: Answer<u64>) -> u64
+    ensures { result ≡ answer_value answer }
+{
+    answer.unwrap_or(0)
 }

@@ -8,12 +8,18 @@ use native.Mathlib.Nat.{add_assoc, add-sub_cancel_left, add-sub_of_le, div-div-e
 use lib.ListN.{length, take, drop, get_or, length-append, length-take, length-drop, take-append-drop, drop_of_length-le}
 use lib.Seq.{drop-drop, take_all, take_at, drop_at, take-append-le, drop-append-le, length-take-le, get_or-take, get_or-drop}
 use borrow.Rule.Slice.PartMut.{put_mid}
+use Rattle.std.specs.Int.{w16, w32, w64, to_le_bytes, from_le_bytes}
 use Rattle.bits.specs.Bytes.{le, part, patch, halfword_at, word_at, doubleword_at}
 
 pub length-le : (n x : ℕ) → length (le n x) ≡ n
 unfolding le
 length-le zero x = refl
 length-le (suc n) x = ap suc (length-le n (x / 256))
+
+-- the library's bytes of a doubleword are these
+pub to_le_bytes_lem : (x : ℕ) → to_le_bytes w64 x ≡ le 8 x
+unfolding le
+to_le_bytes_lem x = simp div-div-eq-div-mul
 
 -- a number is read back from its bytes
 two : (x : ℕ) → x % 256 + 2 ^ 8 * (x / 256 % 256) ≡ x % 2 ^ 16
@@ -157,6 +163,27 @@ module _ (s : List ℕ) (at : ℕ) (p : List ℕ) (f : at + length p ≤ length 
 
   pub get_or-behind : (k : ℕ) → at + length p ≤ k → get_or (patch s at p) k 0 ≡ get_or s k 0
   get_or-behind k h = by_part k (part_behind s at p k 1 f h)
+
+-- the library reads a part's bytes as these do
+pub halfword_of_part : (s : List ℕ) (at : ℕ) → from_le_bytes w16 (part s at 2) ≡ halfword_at s at
+halfword_of_part s at =
+    let e0 : at + 0 ≡ at = omega arith in
+    rw (get_or-part s at 2 0 (omega arith), get_or-part s at 2 1 (omega arith), e0) (omega arith)
+
+pub word_of_part : (s : List ℕ) (at : ℕ) → from_le_bytes w32 (part s at 4) ≡ word_at s at
+word_of_part s at =
+    let e0 : at + 0 ≡ at = omega arith in
+    let e3 : at + 2 + 1 ≡ at + 3 = omega arith in
+    rw (get_or-part s at 4 0 (omega arith), get_or-part s at 4 1 (omega arith), get_or-part s at 4 2 (omega arith), get_or-part s at 4 3 (omega arith), e0, e3) (omega arith)
+
+pub doubleword_of_part : (s : List ℕ) (at : ℕ) → from_le_bytes w64 (part s at 8) ≡ doubleword_at s at
+doubleword_of_part s at =
+    let e0 : at + 0 ≡ at = omega arith in
+    let e3 : at + 2 + 1 ≡ at + 3 = omega arith in
+    let e5 : at + 4 + 1 ≡ at + 5 = omega arith in
+    let e6 : at + 4 + 2 ≡ at + 6 = omega arith in
+    let e7 : at + 6 + 1 ≡ at + 7 = omega arith in
+    rw (get_or-part s at 8 0 (omega arith), get_or-part s at 8 1 (omega arith), get_or-part s at 8 2 (omega arith), get_or-part s at 8 3 (omega arith), get_or-part s at 8 4 (omega arith), get_or-part s at 8 5 (omega arith), get_or-part s at 8 6 (omega arith), get_or-part s at 8 7 (omega arith), e0, e3, e5, e6, e7) (omega arith)
 
 -- a doubleword is that of its eight bytes
 pub doubleword_part : (s : List ℕ) (at n : ℕ) → 8 ≤ n → doubleword_at (part s at n) 0 ≡ doubleword_at s at

@@ -13,7 +13,7 @@ use Rattle.bits.proofs.Every.{each, decide}
 use Rattle.op.specs.Record.{fallback_number, op_fields}
 use Rattle.op.specs.declared.Op.{Op}
 use Rattle.op.specs.declared.Op.TheVariants.{Fallback}
-use Rattle.op.specs.declared.Decoded.TheVariants.{Some, None}
+use Rattle.std.specs.Prelude.{Some, None}
 use Rattle.op.proofs.Fallback.{Other, no_fallback, none, some, other_op}
 use Rattle.op.specs.Proper.{Proper}
 use Rattle.halfword.specs.Instruction.{quadrant, funct3, rd, rs2}

@@ -1,6 +1,6 @@
 -- What the Rust reads a halfword as: `decode_compressed` of block.rs, as tables of its `match` arms.
 -- Assumes nothing.
-use Rattle.std.specs.Prelude.{ℕ, ◌+◌, ◌*◌, cond, List, [], ◌∷◌, eqb, ℤ, pos}
+use Rattle.std.specs.Prelude.{ℕ, ◌+◌, ◌*◌, cond, List, [], ◌∷◌, eqb, ℤ, pos, Option, Some, None}
 use Rattle.bits.specs.Bits.{bits_at, signed}
 use Rattle.bits.specs.Match.{Row, ◌⇒◌, case}
 use Rattle.op.specs.declared.AluKind.{AluKind}
@@ -9,8 +9,7 @@ use Rattle.op.specs.declared.LoadKind.TheVariants.{Lw, Ld}
 use Rattle.op.specs.declared.StoreKind.TheVariants.{Sw, Sd}
 use Rattle.op.specs.declared.BranchKind.TheVariants.{Beq, Bne}
 use Rattle.op.specs.declared.Op.TheVariants.{Lui, AluImm, AluReg, Load, Store, Branch, Jal, Jalr}
-use Rattle.op.specs.declared.Decoded.{Decoded}
-use Rattle.op.specs.declared.Decoded.TheVariants.{Some, None}
+use Rattle.op.specs.declared.Op.{Op}
 use Rattle.halfword.specs.Instruction.{quadrant, funct3, rs2_prime, rs1_prime, rd, rs2}
 
 -- the immediates, by the instructions that have them
@@ -54,32 +53,32 @@ abbrev pub uimm_sdsp : ℕ → ℕ
 uimm_sdsp w = bits_at w 10 3 * 8 + bits_at w 7 3 * 64
 
 -- quadrant 1, funct3 4
-abbrev pub prime_reg : AluKind → ℕ → Decoded
+abbrev pub prime_reg : AluKind → ℕ → Option Op
 prime_reg k w = Some (AluReg k (rs1_prime w) (rs1_prime w) (rs2_prime w))
 
 -- the key is bit 12, then bits 6 and 5: 5 is the Rust's (1, 0x1)
-abbrev pub prime_rows : ℕ → List (Row Decoded)
+abbrev pub prime_rows : ℕ → List (Row (Option Op))
 prime_rows w =
     (0 ⇒ prime_reg Sub w) ∷ (1 ⇒ prime_reg Xor w) ∷ (2 ⇒ prime_reg Or w) ∷ (3 ⇒ prime_reg And w) ∷ (4 ⇒ prime_reg Subw w) ∷ (5 ⇒ prime_reg Addw w)
     ∷ []
 
-abbrev pub prime_imm : AluKind → ℕ → ℤ → Decoded
+abbrev pub prime_imm : AluKind → ℕ → ℤ → Option Op
 prime_imm k w imm = Some (AluImm k (rs1_prime w) (rs1_prime w) imm)
 
-abbrev pub misc_rows : ℕ → List (Row Decoded)
+abbrev pub misc_rows : ℕ → List (Row (Option Op))
 misc_rows w =
     (0 ⇒ prime_imm Srl w (pos (imm6 w))) ∷ (1 ⇒ prime_imm Sra w (pos (imm6 w))) ∷ (2 ⇒ prime_imm And w (signed 6 (imm6 w)))
     ∷ []
 
 -- quadrant 2, funct3 4
-abbrev pub jr_mv : ℕ → Decoded
+abbrev pub jr_mv : ℕ → Option Op
 jr_mv w = cond (eqb (rs2 w) 0) (Some (Jalr 0 (rd w) (pos 0))) (Some (AluReg Add (rd w) 0 (rs2 w)))
 
-abbrev pub jalr_add : ℕ → Decoded
+abbrev pub jalr_add : ℕ → Option Op
 jalr_add w = cond (eqb (rs2 w) 0) (cond (eqb (rd w) 0) None (Some (Jalr 1 (rd w) (pos 0)))) (Some (AluReg Add (rd w) (rd w) (rs2 w)))
 
 -- the key has the quadrant and then funct3, in hexadecimal: 0x15 is the Rust's (1, 0x5)
-abbrev pub half_rows : ℕ → List (Row Decoded)
+abbrev pub half_rows : ℕ → List (Row (Option Op))
 half_rows w =
     (0x00 ⇒ cond (eqb (nzuimm_addi4spn w) 0) None (Some (AluImm Add (rs2_prime w) 2 (pos (nzuimm_addi4spn w)))))
     ∷ (0x02 ⇒ Some (Load Lw (rs2_prime w) (rs1_prime w) (pos (uimm_lw w))))
@@ -102,8 +101,8 @@ half_rows w =
     ∷ (0x27 ⇒ Some (Store Sd 2 (rs2 w) (pos (uimm_sdsp w))))
     ∷ []
 
-abbrev pub half_at : ℕ → ℕ → Decoded
+abbrev pub half_at : ℕ → ℕ → Option Op
 half_at key w = case key (half_rows w) None
 
-abbrev pub rust_half : ℕ → Decoded
+abbrev pub rust_half : ℕ → Option Op
 rust_half w = half_at (quadrant w * 0x10 + funct3 w) w

@@ -1,18 +1,16 @@
-// Halfwords to ops, as the Rust reads them: `decode_compressed`, with a function for each instruction. (block.rs, `decode_compressed`)
+// Halfwords to ops, as the Rust reads them: `decode_compressed`, with a function for each that has cases of its own. (block.rs, `decode_compressed`)
 #![tactic(auto)]
 
 pub mod instruction;
 
-ghost use Rattle.std.specs.Prelude.{◌≡◌, ◌+◌, ◌*◌, pos};
+ghost use Rattle.std.specs.Prelude.{◌≡◌, ◌+◌, ◌*◌, pos, None};
 ghost use Rattle.bits.specs.Bits.{bits_at, signed};
 ghost use Rattle.bits.specs.Match.{case};
-ghost use Rattle.op.specs.declared.AluKind.TheVariants.{Srl, Sra, And};
-ghost use Rattle.op.specs.declared.Decoded.TheVariants.{None};
 ghost use Rattle.halfword.specs.Halfword.{nzuimm_addi4spn, uimm_lw, uimm_ld, imm6, imm_addi16sp, imm_lui, off_j, off_b, uimm_lwsp, uimm_ldsp, uimm_swsp, uimm_sdsp};
 ghost use Rattle.halfword.specs.Halfword.{prime_reg, prime_rows, prime_imm, half_at, rust_half};
 
 use instruction::CompressedInstruction;
-use op::{AluKind, BranchKind, Decoded, LoadKind, Op, StoreKind};
+use op::{AluKind, BranchKind, LoadKind, Op, StoreKind};
 
 impl CompressedInstruction {
     fn nzuimm_addi4spn(self) -> u32
@@ -27,7 +25,7 @@ impl CompressedInstruction {
         ensures { result ≡ pos (uimm_lw self.0) }
     {
         let raw = self.0 as u32;
-        bits::zero_extend(raw / 0x40 % 2 * 4 + raw / 0x400 % 8 * 8 + raw / 0x20 % 2 * 0x40)
+        i64::from(raw / 0x40 % 2 * 4 + raw / 0x400 % 8 * 8 + raw / 0x20 % 2 * 0x40)
     }
 
     // C.LD, C.SD
@@ -35,7 +33,7 @@ impl CompressedInstruction {
         ensures { result ≡ pos (uimm_ld self.0) }
     {
         let raw = self.0 as u32;
-        bits::zero_extend(raw / 0x400 % 8 * 8 + raw / 0x20 % 4 * 0x40)
+        i64::from(raw / 0x400 % 8 * 8 + raw / 0x20 % 4 * 0x40)
     }
 
     // C.ADDI, C.ADDIW, C.LI, C.ANDI
@@ -51,7 +49,7 @@ impl CompressedInstruction {
         ensures { result ≡ pos (imm6 self.0) }
     {
         let raw = self.0 as u32;
-        bits::zero_extend(raw / 0x1000 % 2 * 0x20 + raw / 4 % 0x20)
+        i64::from(raw / 0x1000 % 2 * 0x20 + raw / 4 % 0x20)
     }
 
     fn imm_addi16sp(self) -> i64
@@ -108,132 +106,53 @@ impl CompressedInstruction {
         ensures { result ≡ pos (uimm_lwsp self.0) }
     {
         let raw = self.0 as u32;
-        bits::zero_extend(raw / 0x1000 % 2 * 0x20 + raw / 0x10 % 8 * 4 + raw / 4 % 4 * 0x40)
+        i64::from(raw / 0x1000 % 2 * 0x20 + raw / 0x10 % 8 * 4 + raw / 4 % 4 * 0x40)
     }
 
     fn uimm_ldsp(self) -> i64
         ensures { result ≡ pos (uimm_ldsp self.0) }
     {
         let raw = self.0 as u32;
-        bits::zero_extend(raw / 0x1000 % 2 * 0x20 + raw / 0x20 % 4 * 8 + raw / 4 % 8 * 0x40)
+        i64::from(raw / 0x1000 % 2 * 0x20 + raw / 0x20 % 4 * 8 + raw / 4 % 8 * 0x40)
     }
 
     fn uimm_swsp(self) -> i64
         ensures { result ≡ pos (uimm_swsp self.0) }
     {
         let raw = self.0 as u32;
-        bits::zero_extend(raw / 0x200 % 0x10 * 4 + raw / 0x80 % 4 * 0x40)
+        i64::from(raw / 0x200 % 0x10 * 4 + raw / 0x80 % 4 * 0x40)
     }
 
     fn uimm_sdsp(self) -> i64
         ensures { result ≡ pos (uimm_sdsp self.0) }
     {
         let raw = self.0 as u32;
-        bits::zero_extend(raw / 0x400 % 8 * 8 + raw / 0x80 % 8 * 0x40)
+        i64::from(raw / 0x400 % 8 * 8 + raw / 0x80 % 8 * 0x40)
     }
 }
 
-fn c_addi4spn(c: CompressedInstruction) -> Decoded
+fn c_addi4spn(c: CompressedInstruction) -> Option<Op>
     ensures { result ≡ half_at 0x00 c.0 }
 {
     let nzuimm = c.nzuimm_addi4spn();
     if nzuimm == 0 {
-        return Decoded::None;
+        return None;
     }
-    Decoded::Some(Op::AluImm {
+    Some(Op::AluImm {
         kind: AluKind::Add,
         rd: c.rs2_prime(),
         rs1: 2,
-        imm: bits::zero_extend(nzuimm),
+        imm: i64::from(nzuimm),
     })
 }
 
-fn c_lw(c: CompressedInstruction) -> Decoded
-    ensures { result ≡ half_at 0x02 c.0 }
-{
-    Decoded::Some(Op::Load {
-        kind: LoadKind::Lw,
-        rd: c.rs2_prime(),
-        rs1: c.rs1_prime(),
-        imm: c.uimm_lw(),
-    })
-}
-
-fn c_ld(c: CompressedInstruction) -> Decoded
-    ensures { result ≡ half_at 0x03 c.0 }
-{
-    Decoded::Some(Op::Load {
-        kind: LoadKind::Ld,
-        rd: c.rs2_prime(),
-        rs1: c.rs1_prime(),
-        imm: c.uimm_ld(),
-    })
-}
-
-fn c_sw(c: CompressedInstruction) -> Decoded
-    ensures { result ≡ half_at 0x06 c.0 }
-{
-    Decoded::Some(Op::Store {
-        kind: StoreKind::Sw,
-        rs1: c.rs1_prime(), // the address
-        rs2: c.rs2_prime(), // what is stored
-        imm: c.uimm_lw(),
-    })
-}
-
-fn c_sd(c: CompressedInstruction) -> Decoded
-    ensures { result ≡ half_at 0x07 c.0 }
-{
-    Decoded::Some(Op::Store {
-        kind: StoreKind::Sd,
-        rs1: c.rs1_prime(),
-        rs2: c.rs2_prime(),
-        imm: c.uimm_ld(),
-    })
-}
-
-fn c_addi(c: CompressedInstruction) -> Decoded
-    ensures { result ≡ half_at 0x10 c.0 }
-{
-    let rd = c.rd();
-    Decoded::Some(Op::AluImm {
-        kind: AluKind::Add,
-        rd,
-        rs1: rd,
-        imm: c.imm6(),
-    })
-}
-
-fn c_addiw(c: CompressedInstruction) -> Decoded
-    ensures { result ≡ half_at 0x11 c.0 }
-{
-    let rd = c.rd();
-    Decoded::Some(Op::AluImm {
-        kind: AluKind::Addw,
-        rd,
-        rs1: rd,
-        imm: c.imm6(),
-    })
-}
-
-fn c_li(c: CompressedInstruction) -> Decoded
-    ensures { result ≡ half_at 0x12 c.0 }
-{
-    Decoded::Some(Op::AluImm {
-        kind: AluKind::Add,
-        rd: c.rd(),
-        rs1: 0,
-        imm: c.imm6(),
-    })
-}
-
-fn c_addi16sp_lui(c: CompressedInstruction) -> Decoded
+fn c_addi16sp_lui(c: CompressedInstruction) -> Option<Op>
     ensures { result ≡ half_at 0x13 c.0 }
 {
     let rd = c.rd();
     if rd == 2 {
         // C.ADDI16SP
-        Decoded::Some(Op::AluImm {
+        Some(Op::AluImm {
             kind: AluKind::Add,
             rd: 2,
             rs1: 2,
@@ -241,18 +160,18 @@ fn c_addi16sp_lui(c: CompressedInstruction) -> Decoded
         })
     } else {
         // C.LUI
-        Decoded::Some(Op::Lui {
+        Some(Op::Lui {
             rd,
             imm: c.imm_lui(),
         })
     }
 }
 
-fn prime_reg(kind: AluKind, c: CompressedInstruction) -> Decoded
+fn prime_reg(kind: AluKind, c: CompressedInstruction) -> Option<Op>
     ensures { result ≡ prime_reg kind c.0 }
 {
     let rd = c.rs1_prime();
-    Decoded::Some(Op::AluReg {
+    Some(Op::AluReg {
         kind,
         rd,
         rs1: rd,
@@ -261,7 +180,7 @@ fn prime_reg(kind: AluKind, c: CompressedInstruction) -> Decoded
 }
 
 // The key has bit 12 and then bits 6 and 5: 5 is the Rust's (1, 0x1).
-fn c_prime(c: CompressedInstruction) -> Decoded
+fn c_prime(c: CompressedInstruction) -> Option<Op>
     ensures { result ≡ case (bits_at c.0 12 1 * 4 + bits_at c.0 5 2) (prime_rows c.0) None }
 {
     let key = c.0 / 0x1000 % 2 * 4 + c.0 / 0x20 % 4;
@@ -272,124 +191,35 @@ fn c_prime(c: CompressedInstruction) -> Decoded
         3 => prime_reg(AluKind::And, c),
         4 => prime_reg(AluKind::Subw, c),
         5 => prime_reg(AluKind::Addw, c),
-        _ => Decoded::None,
+        _ => None,
     }
 }
 
-fn c_srli(c: CompressedInstruction) -> Decoded
-    ensures { result ≡ prime_imm Srl c.0 (pos (imm6 c.0)) }
+fn prime_imm(kind: AluKind, c: CompressedInstruction, imm: i64) -> Option<Op>
+    ensures { result ≡ prime_imm kind c.0 imm }
 {
     let rd = c.rs1_prime();
-    Decoded::Some(Op::AluImm {
-        kind: AluKind::Srl,
+    Some(Op::AluImm {
+        kind,
         rd,
         rs1: rd,
-        imm: c.shamt(),
+        imm,
     })
 }
 
-fn c_srai(c: CompressedInstruction) -> Decoded
-    ensures { result ≡ prime_imm Sra c.0 (pos (imm6 c.0)) }
-{
-    let rd = c.rs1_prime();
-    Decoded::Some(Op::AluImm {
-        kind: AluKind::Sra,
-        rd,
-        rs1: rd,
-        imm: c.shamt(),
-    })
-}
-
-fn c_andi(c: CompressedInstruction) -> Decoded
-    ensures { result ≡ prime_imm And c.0 (signed 6 (imm6 c.0)) }
-{
-    let rd = c.rs1_prime();
-    Decoded::Some(Op::AluImm {
-        kind: AluKind::And,
-        rd,
-        rs1: rd,
-        imm: c.imm6(),
-    })
-}
-
-fn c_misc(c: CompressedInstruction) -> Decoded
+fn c_misc(c: CompressedInstruction) -> Option<Op>
     ensures { result ≡ half_at 0x14 c.0 }
 {
     let kind = c.0 / 0x400 % 4;
     match kind {
-        0 => c_srli(c),
-        1 => c_srai(c),
-        2 => c_andi(c),
+        0 => prime_imm(AluKind::Srl, c, c.shamt()), // C.SRLI
+        1 => prime_imm(AluKind::Sra, c, c.shamt()), // C.SRAI
+        2 => prime_imm(AluKind::And, c, c.imm6()), // C.ANDI
         _ => c_prime(c),
     }
 }
 
-fn c_j(c: CompressedInstruction) -> Decoded
-    ensures { result ≡ half_at 0x15 c.0 }
-{
-    Decoded::Some(Op::Jal {
-        rd: 0,
-        offset: c.off_j(),
-    })
-}
-
-fn c_beqz(c: CompressedInstruction) -> Decoded
-    ensures { result ≡ half_at 0x16 c.0 }
-{
-    Decoded::Some(Op::Branch {
-        kind: BranchKind::Beq,
-        rs1: c.rs1_prime(),
-        rs2: 0,
-        offset: c.off_b(),
-    })
-}
-
-fn c_bnez(c: CompressedInstruction) -> Decoded
-    ensures { result ≡ half_at 0x17 c.0 }
-{
-    Decoded::Some(Op::Branch {
-        kind: BranchKind::Bne,
-        rs1: c.rs1_prime(),
-        rs2: 0,
-        offset: c.off_b(),
-    })
-}
-
-fn c_slli(c: CompressedInstruction) -> Decoded
-    ensures { result ≡ half_at 0x20 c.0 }
-{
-    let rd = c.rd();
-    Decoded::Some(Op::AluImm {
-        kind: AluKind::Sll,
-        rd,
-        rs1: rd,
-        imm: c.shamt(),
-    })
-}
-
-fn c_lwsp(c: CompressedInstruction) -> Decoded
-    ensures { result ≡ half_at 0x22 c.0 }
-{
-    Decoded::Some(Op::Load {
-        kind: LoadKind::Lw,
-        rd: c.rd(),
-        rs1: 2,
-        imm: c.uimm_lwsp(),
-    })
-}
-
-fn c_ldsp(c: CompressedInstruction) -> Decoded
-    ensures { result ≡ half_at 0x23 c.0 }
-{
-    Decoded::Some(Op::Load {
-        kind: LoadKind::Ld,
-        rd: c.rd(),
-        rs1: 2,
-        imm: c.uimm_ldsp(),
-    })
-}
-
-fn c_jr_mv_add(c: CompressedInstruction) -> Decoded
+fn c_jr_mv_add(c: CompressedInstruction) -> Option<Op>
     ensures { result ≡ half_at 0x24 c.0 }
 {
     let rd = c.rd();
@@ -398,14 +228,14 @@ fn c_jr_mv_add(c: CompressedInstruction) -> Decoded
     if bit12 == 0 {
         if rs2 == 0 {
             // C.JR
-            Decoded::Some(Op::Jalr {
+            Some(Op::Jalr {
                 rd: 0,
                 rs1: rd,
                 imm: 0,
             })
         } else {
             // C.MV
-            Decoded::Some(Op::AluReg {
+            Some(Op::AluReg {
                 kind: AluKind::Add,
                 rd,
                 rs1: 0,
@@ -416,10 +246,10 @@ fn c_jr_mv_add(c: CompressedInstruction) -> Decoded
         if rs2 == 0 {
             if rd == 0 {
                 // C.EBREAK
-                Decoded::None
+                None
             } else {
                 // C.JALR
-                Decoded::Some(Op::Jalr {
+                Some(Op::Jalr {
                     rd: 1,
                     rs1: rd,
                     imm: 0,
@@ -427,7 +257,7 @@ fn c_jr_mv_add(c: CompressedInstruction) -> Decoded
             }
         } else {
             // C.ADD
-            Decoded::Some(Op::AluReg {
+            Some(Op::AluReg {
                 kind: AluKind::Add,
                 rd,
                 rs1: rd,
@@ -437,57 +267,132 @@ fn c_jr_mv_add(c: CompressedInstruction) -> Decoded
     }
 }
 
-fn c_swsp(c: CompressedInstruction) -> Decoded
-    ensures { result ≡ half_at 0x26 c.0 }
-{
-    Decoded::Some(Op::Store {
-        kind: StoreKind::Sw,
-        rs1: 2,
-        rs2: c.rs2(),
-        imm: c.uimm_swsp(),
-    })
-}
-
-fn c_sdsp(c: CompressedInstruction) -> Decoded
-    ensures { result ≡ half_at 0x27 c.0 }
-{
-    Decoded::Some(Op::Store {
-        kind: StoreKind::Sd,
-        rs1: 2,
-        rs2: c.rs2(),
-        imm: c.uimm_sdsp(),
-    })
-}
-
 // The key has the quadrant and then funct3, in hexadecimal: 0x15 is the Rust's (1, 0x5).
-fn decode_at(key: u16, c: CompressedInstruction) -> Decoded
+fn decode_at(key: u16, c: CompressedInstruction) -> Option<Op>
     ensures { result ≡ half_at key c.0 }
 {
     match key {
         0x00 => c_addi4spn(c),
-        0x02 => c_lw(c),
-        0x03 => c_ld(c),
-        0x06 => c_sw(c),
-        0x07 => c_sd(c),
-        0x10 => c_addi(c),
-        0x11 => c_addiw(c),
-        0x12 => c_li(c),
+        // C.LW
+        0x02 => Some(Op::Load {
+            kind: LoadKind::Lw,
+            rd: c.rs2_prime(),
+            rs1: c.rs1_prime(),
+            imm: c.uimm_lw(),
+        }),
+        // C.LD
+        0x03 => Some(Op::Load {
+            kind: LoadKind::Ld,
+            rd: c.rs2_prime(),
+            rs1: c.rs1_prime(),
+            imm: c.uimm_ld(),
+        }),
+        // C.SW
+        0x06 => Some(Op::Store {
+            kind: StoreKind::Sw,
+            rs1: c.rs1_prime(), // the address
+            rs2: c.rs2_prime(), // what is stored
+            imm: c.uimm_lw(),
+        }),
+        // C.SD
+        0x07 => Some(Op::Store {
+            kind: StoreKind::Sd,
+            rs1: c.rs1_prime(),
+            rs2: c.rs2_prime(),
+            imm: c.uimm_ld(),
+        }),
+        // C.ADDI
+        0x10 => {
+            let rd = c.rd();
+            Some(Op::AluImm {
+                kind: AluKind::Add,
+                rd,
+                rs1: rd,
+                imm: c.imm6(),
+            })
+        }
+        // C.ADDIW
+        0x11 => {
+            let rd = c.rd();
+            Some(Op::AluImm {
+                kind: AluKind::Addw,
+                rd,
+                rs1: rd,
+                imm: c.imm6(),
+            })
+        }
+        // C.LI
+        0x12 => Some(Op::AluImm {
+            kind: AluKind::Add,
+            rd: c.rd(),
+            rs1: 0,
+            imm: c.imm6(),
+        }),
         0x13 => c_addi16sp_lui(c),
         0x14 => c_misc(c),
-        0x15 => c_j(c),
-        0x16 => c_beqz(c),
-        0x17 => c_bnez(c),
-        0x20 => c_slli(c),
-        0x22 => c_lwsp(c),
-        0x23 => c_ldsp(c),
+        // C.J
+        0x15 => Some(Op::Jal {
+            rd: 0,
+            offset: c.off_j(),
+        }),
+        // C.BEQZ
+        0x16 => Some(Op::Branch {
+            kind: BranchKind::Beq,
+            rs1: c.rs1_prime(),
+            rs2: 0,
+            offset: c.off_b(),
+        }),
+        // C.BNEZ
+        0x17 => Some(Op::Branch {
+            kind: BranchKind::Bne,
+            rs1: c.rs1_prime(),
+            rs2: 0,
+            offset: c.off_b(),
+        }),
+        // C.SLLI
+        0x20 => {
+            let rd = c.rd();
+            Some(Op::AluImm {
+                kind: AluKind::Sll,
+                rd,
+                rs1: rd,
+                imm: c.shamt(),
+            })
+        }
+        // C.LWSP
+        0x22 => Some(Op::Load {
+            kind: LoadKind::Lw,
+            rd: c.rd(),
+            rs1: 2,
+            imm: c.uimm_lwsp(),
+        }),
+        // C.LDSP
+        0x23 => Some(Op::Load {
+            kind: LoadKind::Ld,
+            rd: c.rd(),
+            rs1: 2,
+            imm: c.uimm_ldsp(),
+        }),
         0x24 => c_jr_mv_add(c),
-        0x26 => c_swsp(c),
-        0x27 => c_sdsp(c),
-        _ => Decoded::None,
+        // C.SWSP
+        0x26 => Some(Op::Store {
+            kind: StoreKind::Sw,
+            rs1: 2,
+            rs2: c.rs2(),
+            imm: c.uimm_swsp(),
+        }),
+        // C.SDSP
+        0x27 => Some(Op::Store {
+            kind: StoreKind::Sd,
+            rs1: 2,
+            rs2: c.rs2(),
+            imm: c.uimm_sdsp(),
+        }),
+        _ => None,
     }
 }
 
-pub fn decode_compressed(raw: u16) -> Decoded
+pub fn decode_compressed(raw: u16) -> Option<Op>
     ensures { result ≡ rust_half raw }
 {
     let c = CompressedInstruction(raw);

@@ -1,10 +1,8 @@
 -- The kinds in the order of the Rust enums, and their numbers, which are their positions from 0.
 -- Assumes nothing.
-use Rattle.std.specs.Prelude.{ℕ, ◌<◌, ◌≡◌, List, [], ◌∷◌, map, length, get_or}
+use Rattle.std.specs.Prelude.{ℕ, ◌<◌, ◌≡◌, List, [], ◌∷◌, map, length, get_or, Option, Some, None}
 use Rattle.op.specs.declared.AluKind.{AluKind}
 use Rattle.op.specs.declared.AluKind.TheVariants.{Add, Sub, Sll, Slt, Sltu, Xor, Srl, Sra, Or, And, Addw, Subw, Sllw, Srlw, Sraw, Mul, Mulh, Mulhsu, Mulhu, Div, Divu, Rem, Remu, Mulw, Divw, Divuw, Remw, Remuw, Andn, Orn, Xnor, Rol, Ror, Rolw, Rorw, Min, Max, Minu, Maxu, Clz, Ctz, Cpop, Clzw, Ctzw, Cpopw, SextB, SextH, ZextH, Rev8, OrcB, Sh1add, Sh2add, Sh3add, AddUw, Sh1addUw, Sh2addUw, Sh3addUw, SlliUw}
-use Rattle.op.specs.declared.KindAt.{KindAt}
-use Rattle.op.specs.declared.KindAt.TheVariants.{Known, Unknown}
 use Rattle.op.specs.declared.LoadKind.{LoadKind}
 use Rattle.op.specs.declared.LoadKind.TheVariants.{Lb, Lbu, Lh, Lhu, Lw, Lwu, Ld}
 use Rattle.op.specs.declared.StoreKind.{StoreKind}
@@ -32,8 +30,8 @@ abbrev pub branch_kinds : List BranchKind
 branch_kinds = Beq ∷ Bne ∷ Blt ∷ Bge ∷ Bltu ∷ Bgeu ∷ []
 
 -- the kind at a position
-abbrev pub kind_at : ℕ → KindAt
-kind_at n = get_or (map Known alu_kinds) n Unknown
+abbrev pub kind_at : ℕ → Option AluKind
+kind_at n = get_or (map Some alu_kinds) n None
 
 -- what makes numbers the positions in a list: each kind stands at its number, and nowhere else
 pub record Positions {A : Type 0} (kinds : List A) (number : A → ℕ) : Type 0 where

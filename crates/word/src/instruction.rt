@@ -90,16 +90,17 @@ impl Instruction {
         let val = bit20 * 0x10_0000 + bits19_12 * 0x1000 + bit11 * 0x800 + bits10_1 * 2;
         bits::sign_extend(val as u64, 21)
     }
+
     // The shift amounts: what the Rust masks out of the I-type immediate.
     pub fn shamt6(self) -> i64
         ensures { result ≡ pos (shamt6 self.0) }
     {
-        bits::zero_extend(self.0 / 0x10_0000 % 0x40)
+        i64::from(self.0 / 0x10_0000 % 0x40)
     }
 
     pub fn shamt5(self) -> i64
         ensures { result ≡ pos (shamt5 self.0) }
     {
-        bits::zero_extend(self.0 / 0x10_0000 % 0x20)
+        i64::from(self.0 / 0x10_0000 % 0x20)
     }
 }

@@ -10,5 +10,5 @@ pub returns : goal.returns
 returns c =
     let a = c.args in
     put_back a.out.now a.at 16 _ (op_record a.op a.ilen a.off)
-    (c.copy_all.ensures ∙ c.bytes-record.ensures ∙ ap (λ (f : OpRecord). op_bytes f a.ilen a.off) c.fields_of.ensures)
+    (c.copy_from_slice.ensures.after ∙ c.bytes.ensures ∙ ap (λ (f : OpRecord). op_bytes f a.ilen a.off) c.fields_of.ensures)
     (length_record a.op a.ilen a.off)

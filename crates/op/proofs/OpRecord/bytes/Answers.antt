@@ -5,4 +5,4 @@ use Rattle.op.proofs.OpRecord.bytes.Goals as goal
 
 pub returns : goal.returns
 unfolding le
-returns c = simp div-div-eq-div-mul
+returns c = rw (c.to_le_bytes-off.ensures, c.to_le_bytes-imm.ensures) (simp div-div-eq-div-mul)

@@ -1,0 +1,8 @@
+-- `bits::halfword_at` meets its contract: the library reads the same bytes.
+use Rattle.std.proofs.Common.{◌∙◌, ap, ℕ, List}
+use Rattle.std.specs.Int.{w16, from_le_bytes}
+use Rattle.bits.proofs.Bytes.{halfword_of_part}
+use Rattle.bits.proofs.halfword_at.Goals as goal
+
+pub returns : goal.returns
+returns c = c.from_le_bytes.ensures ∙ ap (from_le_bytes w16) c.bytes_at.ensures ∙ halfword_of_part c.args.s.now c.args.at

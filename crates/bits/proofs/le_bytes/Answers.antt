@@ -1,8 +1,0 @@
--- `bits::le_bytes` meets its contract: each byte is a remainder of a quotient, and a quotient of quotients is one quotient.
-use native.Mathlib.Nat.{div-div-eq-div-mul}
-use Rattle.bits.specs.Bytes.{le}
-use Rattle.bits.proofs.le_bytes.Goals as goal
-
-pub returns : goal.returns
-unfolding le
-returns c = simp div-div-eq-div-mul
