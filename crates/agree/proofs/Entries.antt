@@ -9,12 +9,12 @@ use borrow.Author.Tests.{eqb-true}
 use Rattle.bits.proofs.Every.{both}
 use Rattle.bits.proofs.Tests.{and_both, true_false}
 use Rattle.op.specs.Record.{op_fields}
-use Rattle.op.specs.declared.Decoded.{Decoded}
-use Rattle.op.specs.declared.Decoded.TheVariants.{Some, None}
 use Rattle.agree.specs.Differences.{Entry, listed, Told, amended}
+use Rattle.op.specs.declared.Op.{Op}
+use Rattle.std.specs.Prelude.{Option, Some, None}
 
 -- what tells two answers apart whatever their operands are: whether there is an op, its number and its kind
-abbrev pub lead : Decoded → List ℕ
+abbrev pub lead : Option Op → List ℕ
 lead None = []
 lead (Some op) = (op_fields op).op ∷ (op_fields op).kind ∷ []
 
@@ -24,10 +24,10 @@ stamp_of [] = 0
 stamp_of (op ∷ []) = 0
 stamp_of (op ∷ kind ∷ _) = suc op * 64 + kind
 
-abbrev stamp : Decoded → ℕ
+abbrev stamp : Option Op → ℕ
 stamp d = stamp_of (lead d)
 
-abbrev unlike : Decoded → Decoded → Bool
+abbrev unlike : Option Op → Option Op → Bool
 unlike a b = not (eqb (stamp a) (stamp b))
 
 -- antt computes this with w left open
@@ -35,7 +35,7 @@ abbrev pub apart : List Entry → ℕ → Bool
 apart [] w = true
 apart (e ∷ es) w = unlike (e.rust w) (e.manual w) && apart es w
 
-refuted : (a b : Decoded) → lead a ≡ lead b → T (unlike a b) → ⊥
+refuted : (a b : Option Op) → lead a ≡ lead b → T (unlike a b) → ⊥
 refuted a b p = rw (ap stamp_of p) (λ t. no (eqb (stamp b) (stamp b)) (eqb_refl (stamp b)) t)
   where
     no : (a : Bool) → T a → T (not a) → ⊥
@@ -60,7 +60,7 @@ fields x k y l t h =
     let b = and_both (eqb x k) (eqb y l) a.0 in
     (eqb-true x k b.0, eqb-true y l b.1, a.1)
 
-module _ (rust manual : ℕ → Decoded) where
+module _ (rust manual : ℕ → Option Op) where
   pub differ_by : (es : List Entry) → Told es rust manual → (w : ℕ) → T (apart es w) → listed es w ≡ true → lead (rust w) ≡ lead (manual w) → ⊥
   differ_by [] t w a h d = true_false h refl
   differ_by (e ∷ es) t w a h d =
@@ -84,7 +84,7 @@ abbrev Silent : List Entry → Type 0
 Silent [] = Unit {0}
 Silent (e ∷ es) = ((w : ℕ) → e.manual w ≡ None) × Silent es
 
-pub silent : (es : List Entry) → Silent es → (rust : ℕ → Decoded) (w : ℕ) → amended es rust w ≡ cond (listed es w) None (rust w)
+pub silent : (es : List Entry) → Silent es → (rust : ℕ → Option Op) (w : ℕ) → amended es rust w ≡ cond (listed es w) None (rust w)
 silent [] s rust w = refl
 silent (e ∷ es) s rust w = rw (s.0 w, silent es s.1 rust w) (either (e.covers w) (listed es w))
   where

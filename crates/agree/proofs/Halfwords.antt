@@ -11,8 +11,6 @@ use Rattle.bits.specs.Bits.{bits_at}
 use Rattle.bits.specs.Match.{case}
 use Rattle.bits.proofs.Every.{each}
 use Rattle.op.specs.declared.Op.{Op}
-use Rattle.op.specs.declared.Decoded.{Decoded}
-use Rattle.op.specs.declared.Decoded.TheVariants.{Some, None}
 use Rattle.halfword.specs.Instruction.{rd, rs2}
 use Rattle.halfword.specs.Halfword as rust
 use Rattle.halfword.specs.Halfword.{half_at, rust_half}
@@ -21,6 +19,7 @@ use Rattle.manual.specs.Halfwords.{half_by, manual_half}
 use Rattle.agree.specs.Differences.{listed, amended, half_entries}
 use Rattle.agree.proofs.Entries.{lead, differ_by, manual_by, silent}
 use Rattle.agree.proofs.ToldHalfwords.{addi16sp, lui, pieces, told}
+use Rattle.std.specs.Prelude.{Option, Some, None}
 
 -- the figures
 addi4spn : (w : ℕ) → rust.nzuimm_addi4spn w ≡ manual.addi4spn w
@@ -101,7 +100,7 @@ none_if_lem : (x : Bool) (op : Op) → cond x None (Some op) ≡ manual.none_if 
 none_if_lem true op = refl
 none_if_lem false op = refl
 
-kept : (x y : Bool) (op : Op) (other : Decoded) → (x && y) ≡ false → cond x (Some op) other ≡ cond x (manual.none_if y op) other
+kept : (x y : Bool) (op : Op) (other : Option Op) → (x && y) ≡ false → cond x (Some op) other ≡ cond x (manual.none_if y op) other
 kept true true op other h = absurd (true≢false h)
 kept true false op other h = refl
 kept false y op other h = refl

@@ -15,8 +15,6 @@ use Rattle.bits.proofs.Every.{at}
 use Rattle.bits.proofs.Tests.{and_both}
 use Rattle.op.specs.declared.AluKind.TheVariants.{Add}
 use Rattle.op.specs.declared.Op.TheVariants.{Lui, AluImm}
-use Rattle.op.specs.declared.Decoded.{Decoded}
-use Rattle.op.specs.declared.Decoded.TheVariants.{Some, None}
 use Rattle.halfword.specs.Instruction.{rd}
 use Rattle.halfword.specs.Halfword.{rust_half}
 use Rattle.manual.specs.Halfwords.{manual_half}
@@ -25,6 +23,8 @@ use Rattle.agree.specs.ShortList.{short_entries, missed_entries, short_half, mis
 use Rattle.agree.proofs.Entries.{lead, fields, two_ask}
 use Rattle.agree.proofs.Halfwords.{half_is}
 use Rattle.agree.proofs.ToldHalfwords.{told}
+use Rattle.op.specs.declared.Op.{Op}
+use Rattle.std.specs.Prelude.{Option, Some, None}
 
 -- by the short list 0x6101 is the op that 0x0101 is to the manual: no record tells them apart, the memory does
 pub twins : (short_half 0x6101 ≡ short_half 0x0101) × (manual_half 0x0101 ≡ short_half 0x0101) × (manual_half 0x6101 ≡ None)
@@ -89,12 +89,12 @@ module _ (w : ℕ) where
 
   -- so its reading is the Rust's, and none where one of its own entries stands
   pub short-is : short_half w ≡ cond (listed short_entries w) None (rust_half w)
-  short-is = ap (λ (d : Decoded). cond (listed missed_entries w) (rust_half w) d) (half_is w) ∙ by (addiw0.covers w) (addi16sp0.covers w) (lui0.covers w) behind (rust_half w) own
+  short-is = ap (λ (d : Option Op). cond (listed missed_entries w) (rust_half w) d) (half_is w) ∙ by (addiw0.covers w) (addi16sp0.covers w) (lui0.covers w) behind (rust_half w) own
     where
       own : listed missed_entries w ≡ true → listed short_entries w ≡ false
       own h = let f = missed_fields w h in rw (f.0, f.1) refl
 
-      by : (a b c d : Bool) (x : Decoded) → ((b || (c || false)) ≡ true → (a || d) ≡ false)
+      by : (a b c d : Bool) (x : Option Op) → ((b || (c || false)) ≡ true → (a || d) ≡ false)
           → cond (b || (c || false)) x (cond (a || (b || (c || d))) None x) ≡ cond (a || d) None x
       by a true c d x o = ap (λ (b : Bool). cond b None x) (sym (o refl))
       by a false true d x o = ap (λ (b : Bool). cond b None x) (sym (o refl))

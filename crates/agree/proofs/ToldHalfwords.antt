@@ -12,8 +12,6 @@ use Rattle.bits.specs.Bits.{bits_at}
 use Rattle.bits.proofs.Tests.{and_both}
 use Rattle.op.specs.declared.AluKind.TheVariants.{Add}
 use Rattle.op.specs.declared.Op.TheVariants.{Lui, AluImm, Jalr}
-use Rattle.op.specs.declared.Decoded.{Decoded}
-use Rattle.op.specs.declared.Decoded.TheVariants.{Some, None}
 use Rattle.halfword.specs.Instruction.{rd, rs2}
 use Rattle.halfword.specs.Halfword as rust
 use Rattle.halfword.specs.Halfword.{half_at, rust_half}
@@ -21,6 +19,8 @@ use Rattle.manual.specs.Halfwords as manual
 use Rattle.manual.specs.Halfwords.{half_by, manual_half}
 use Rattle.agree.specs.Differences.{Told, row, imm0, half_entries}
 use Rattle.agree.proofs.Entries.{fields}
+use Rattle.op.specs.declared.Op.{Op}
+use Rattle.std.specs.Prelude.{Option, Some, None}
 
 -- the figures of C.ADDI16SP and C.LUI
 pub addi16sp : (w : ℕ) → rust.imm_addi16sp w ≡ manual.addi16sp w
@@ -40,10 +40,10 @@ pieces w =
     omega arith
 
 -- an entry's row in both readings, where what it asks there holds
-abbrev AtRow : ℕ → ℕ → ℕ → Decoded → Decoded → Type 0
+abbrev AtRow : ℕ → ℕ → ℕ → Option Op → Option Op → Type 0
 AtRow q f3 w rust manual = (half_at (q * 0x10 + f3) w ≡ rust) × (half_by q f3 w ≡ manual)
 
-at_row : (q f3 : ℕ) (asked : ℕ → Bool) (rust manual : ℕ → Decoded) → ((w : ℕ) → asked w ≡ true → AtRow q f3 w (rust w) (manual w))
+at_row : (q f3 : ℕ) (asked : ℕ → Bool) (rust manual : ℕ → Option Op) → ((w : ℕ) → asked w ≡ true → AtRow q f3 w (rust w) (manual w))
     → (w : ℕ) → row q f3 asked w ≡ true → (rust_half w ≡ rust w) × (manual_half w ≡ manual w)
 at_row q f3 asked rust manual shown w h = let k = fields (bits_at w 0 2) q (bits_at w 13 3) f3 (asked w) h in rw (k.0, k.1) (shown w k.2)
 

@@ -1,25 +1,24 @@
 -- The entries of docs/DIFFERENCES.md: the words and halfwords that the Rust and the manual read differently, and what each of them reads there.
 -- Assumes nothing.
-use Rattle.std.specs.Prelude.{ℕ, ◌≡◌, Bool, true, false, cond, not, ◌&&◌, ◌||◌, List, [], ◌∷◌, eqb, pos}
+use Rattle.std.specs.Prelude.{ℕ, ◌≡◌, Bool, true, false, cond, not, ◌&&◌, ◌||◌, List, [], ◌∷◌, eqb, pos, Option, Some, None}
 use Rattle.bits.specs.Bits.{bits_at, signed}
 use Rattle.op.specs.declared.AluKind.{AluKind}
 use Rattle.op.specs.declared.AluKind.TheVariants.{Add, Addw, Max, Minu, SextB, SextH, Rev8, OrcB}
 use Rattle.op.specs.declared.LoadKind.TheVariants.{Lw, Ld}
 use Rattle.op.specs.declared.Op.TheVariants.{Lui, AluImm, AluReg, Load, Jalr}
-use Rattle.op.specs.declared.Decoded.{Decoded}
-use Rattle.op.specs.declared.Decoded.TheVariants.{Some, None}
 use Rattle.word.specs.Instruction as word
 use Rattle.halfword.specs.Instruction as half
 use Rattle.halfword.specs.Halfword.{imm6, uimm_lwsp, uimm_ldsp}
+use Rattle.op.specs.declared.Op.{Op}
 
 -- which encodings an entry covers, one of them, and what the Rust and the manual read each of them as
 pub record Entry : Type 0 where
   pub example : ℕ
   pub covers : ℕ → Bool
-  pub rust : ℕ → Decoded
-  pub manual : ℕ → Decoded
+  pub rust : ℕ → Option Op
+  pub manual : ℕ → Option Op
 
-abbrev pub entry : ℕ → (ℕ → Bool) → (ℕ → Decoded) → (ℕ → Decoded) → Entry
+abbrev pub entry : ℕ → (ℕ → Bool) → (ℕ → Option Op) → (ℕ → Option Op) → Entry
 entry example covers rust manual = record { example = example; covers = covers; rust = rust; manual = manual }
 
 -- some entry covers w
@@ -28,31 +27,31 @@ listed [] w = false
 listed (e ∷ es) w = e.covers w || listed es w
 
 -- each entry covers its example, and wherever it covers, the two readings are what it says
-abbrev pub Told : List Entry → (ℕ → Decoded) → (ℕ → Decoded) → Type 0
+abbrev pub Told : List Entry → (ℕ → Option Op) → (ℕ → Option Op) → Type 0
 Told [] rust manual = Unit {0}
 Told (e ∷ es) rust manual =
     (e.covers e.example ≡ true) × ((w : ℕ) → e.covers w ≡ true → (rust w ≡ e.rust w) × (manual w ≡ e.manual w)) × Told es rust manual
 
 -- the Rust's reading, but the manual's answer of the first entry that covers w
-abbrev pub amended : List Entry → (ℕ → Decoded) → ℕ → Decoded
+abbrev pub amended : List Entry → (ℕ → Option Op) → ℕ → Option Op
 amended [] rust w = rust w
 amended (e ∷ es) rust w = cond (e.covers w) (e.manual w) (amended es rust w)
 
-abbrev pub none : ℕ → Decoded
+abbrev pub none : ℕ → Option Op
 none w = None
 
 -- opcode 0x13, by funct3 and bits 31 to 20, which leave no immediate
 abbrev pub imm : ℕ → ℕ → ℕ → Bool
 imm funct3 top w = eqb (word.opcode w) 0x13 && eqb (word.funct3 w) funct3 && eqb (bits_at w 20 12) top
 
-abbrev pub unary : AluKind → ℕ → Decoded
+abbrev pub unary : AluKind → ℕ → Option Op
 unary kind w = Some (AluImm kind (word.rd w) (word.rs1 w) (pos 0))
 
 -- opcode 0x33, by funct3 and funct7
 abbrev pub reg : ℕ → ℕ → ℕ → Bool
 reg funct3 funct7 w = eqb (word.opcode w) 0x33 && eqb (word.funct3 w) funct3 && eqb (word.funct7 w) funct7
 
-abbrev pub binary : AluKind → ℕ → Decoded
+abbrev pub binary : AluKind → ℕ → Option Op
 binary kind w = Some (AluReg kind (word.rd w) (word.rs1 w) (word.rs2 w))
 
 abbrev pub word_entries : List Entry

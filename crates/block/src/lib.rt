@@ -96,13 +96,7 @@ pub fn put_head(record: &mut [u8], address: u64, count: u16, len: u16)
 fn all_zero(s: &[u8]) -> bool
     ensures { result ≡ all_zero s.now }
 {
-    let mut seen = 0u8;
-    let mut i = 0;
-    while i < s.len() {
-        seen = seen | s[i];
-        i += 1;
-    }
-    seen == 0
+    s.iter().fold(0, |seen, byte| seen | *byte) == 0
 }
 
 pub fn jumps(op: u8) -> bool
@@ -135,23 +129,18 @@ fn ops_well_formed(record: &[u8], count: usize, byte_len: usize) -> bool
     requires { (length «record».now ≡ 1040) × (count ≤ 64) }
     ensures { result ≡ ops_well_formed (drop 16 «record».now) count 0 byte_len }
 {
-    let mut left = count;
-    let mut from = BlockRecord::HEAD;
     let mut at = 0;
-    while 0 < left {
-        left -= 1;
-        let to = from + OpRecord::LEN;
-        if op_placed(&record[from..to], at, left) {
-            at += record[from + 5] as usize;
-            from = to;
-        } else {
+    for i in 0..count {
+        let from = BlockRecord::HEAD + i * OpRecord::LEN;
+        if !op_placed(&record[from..from + OpRecord::LEN], at, count - 1 - i) {
             return false;
         }
+        at += usize::from(record[from + 5]);
     }
     if at != byte_len {
         return false;
     }
-    all_zero(&record[from..])
+    all_zero(&record[BlockRecord::HEAD + count * OpRecord::LEN..])
 }
 
 // Whether bytes are a well-formed block record for an address.

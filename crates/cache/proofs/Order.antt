@@ -16,18 +16,17 @@ use Rattle.bits.proofs.Tests.{and_both, not_true, true_false}
 use Rattle.store.specs.Layout.{front, opened, Bounded, Fitting, holds, memory_page}
 use Rattle.store.specs.Places.{page_bit, with_bit, place_in, emptied, blank}
 use Rattle.store.specs.declared.Geometry.{Geometry}
-use Rattle.store.specs.declared.Opened.{Opened}
-use Rattle.store.specs.declared.Opened.TheVariants.{Sound, NotAStore}
 use Rattle.store.proofs.Bits.{with_comm}
 use Rattle.store.proofs.Known.{holds_are, are_held, page-lt, bit-fits, front_fits}
 use Rattle.store.proofs.Places.{emptied_comm}
 use Rattle.store.proofs.View.{store_ext, opened-flushed}
-use Rattle.answer.specs.declared.Answer.TheVariants.{Done}
 use Rattle.cache.specs.Answers.{nothing_done, reported}
 use Rattle.cache.specs.Calls.{watched, evicted, noticed_in, report_in, summed, notice_by, notice_call, flush_by, flush_call}
 use Rattle.cache.proofs.Checks.{opened-fits}
 use Rattle.cache.proofs.Reports.{summed_comm}
 use Rattle.cache.proofs.View.{fitting_evicted, bits-evicted, place_evicted, front-evicted, noticed_keeps, opened_noticed, report_apart, watched_apart}
+use Rattle.answer.specs.Answer.{done}
+use Rattle.std.specs.Prelude.{Option, Some, None}
 
 -- addresses of one page are in memory together, and in the same page of it
 held_alike : (g : Geometry) → Bounded g → (x y : ℕ) → x / 4096 ≡ y / 4096 → holds g x ≡ true → holds g y ≡ true
@@ -146,12 +145,12 @@ module _ (g : Geometry) (s : List ℕ) (f : Fitting g s) (a : ℕ) where
   head_noticed = noticed_keeps g s a (λ z. take 32 z ≡ take 32 s) refl head_evicted
 
 -- what holds of a store, and of no store, holds of any bytes
-pub on_any_bytes : (s : List ℕ) (P : Opened → Type 0) → ((g : Geometry) → Fitting g s → P (Sound g)) → P NotAStore → P (opened s)
+pub on_any_bytes : (s : List ℕ) (P : Option Geometry → Type 0) → ((g : Geometry) → Fitting g s → P (Some g)) → P None → P (opened s)
 on_any_bytes s P good bad = go (opened s) refl
   where
-    go : (o : Opened) → opened s ≡ o → P o
-    go (Sound g) e = good g (opened-fits s g e)
-    go NotAStore e = bad
+    go : (o : Option Geometry) → opened s ≡ o → P o
+    go (Some g) e = good g (opened-fits s g e)
+    go None e = bad
 
 -- The laws of the calls.
 
@@ -161,7 +160,7 @@ notice-opened s a = on_any_bytes s (λ o. opened (notice_by o s a).1 ≡ opened 
 
 -- the second of two notices, by what the check found before the first
 second : (s : List ℕ) (a b : ℕ) → notice_call (notice_call s a).1 b ≡ notice_by (opened s) (notice_by (opened s) s a).1 b
-second s a b = ap (λ (o : Opened). notice_by o (notice_call s a).1 b) (notice-opened s a)
+second s a b = ap (λ (o : Option Geometry). notice_by o (notice_call s a).1 b) (notice-opened s a)
 
 module _ (s : List ℕ) (a b : ℕ) where
   -- in either order the same store, and the same sums
@@ -192,4 +191,4 @@ pub flush_twice : (s : List ℕ) → flush_call (flush_call s).1 ≡ flush_call 
 flush_twice s =
     rw (flush-opened s)
     (on_any_bytes s (λ o. flush_by o (flush_by o s).1 ≡ flush_by o s)
-    (λ g f. ap (λ (head : List ℕ). (Done, head ++ blank g)) (take_at (take 32 s) (blank g) 32 (length-take-le 32 s (let w = front_fits g s f in omega arith)))) refl)
+    (λ g f. ap (λ (head : List ℕ). (done, head ++ blank g)) (take_at (take 32 s) (blank g) 32 (length-take-le 32 s (let w = front_fits g s f in omega arith)))) refl)

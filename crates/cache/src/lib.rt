@@ -4,19 +4,12 @@
 ghost use Rattle.std.specs.Prelude.{◌≡◌, true, ◌++◌, ◌+◌, ◌<◌, ◌^◌, length};
 ghost use Rattle.store.specs.Layout.{header, opened, Fitting, holds};
 ghost use Rattle.store.specs.Places.{place_for, blank};
-ghost use Rattle.cache.specs.Answers.{lookup_number, lookup_value, lookup_part, nothing_done, report_number, reported};
+ghost use Rattle.cache.specs.Answers.{lookup_part, nothing_done};
 ghost use Rattle.cache.specs.Calls.{make_judged, make_call, lookup_call, insert_judged, inserted_in, insert_call, summed, watched, evicted, noticed_in, dropped_in, report_in, notice_call, flush_call, generation_call};
 
-use answer::{Answer, Refusal, Valued};
+use answer::{Answer, Refusal};
 use block::{BlockRecord, PAGE};
-use store::{Geometry, Opened};
-
-// What the checks of a call come to. A call decides first and writes then.
-#[derive(Drop)]
-pub enum Judged {
-    Accepted(Geometry),
-    Rejected(Refusal),
-}
+use store::Geometry;
 
 // What a notice did: the slots it examined, and the places it emptied.
 #[derive(Clone, Copy)]
@@ -25,17 +18,11 @@ pub struct Report {
     pub dropped: u64,
 }
 
+// Where in the store the part begins that a lookup shows, and its length.
 #[derive(Clone, Copy)]
-pub enum LookupAnswer {
-    Hit { at: usize, len: usize },
-    LookupRefused(Refusal),
-}
-
-// What a notice answers, a list of them, and a guest write.
-#[derive(Clone, Copy)]
-pub enum ReportAnswer {
-    Reported(Report),
-    NotReported(Refusal),
+pub struct Hit {
+    pub at: usize,
+    pub len: usize,
 }
 
 impl Report {
@@ -49,60 +36,18 @@ impl Report {
     }
 }
 
-impl LookupAnswer {
-    pub fn number(self) -> u64
-        ensures { result ≡ lookup_number self }
-    {
-        match self {
-            Self::Hit { at: _, len: _ } => 0,
-            Self::LookupRefused(why) => why.number(),
-        }
-    }
-
-    // Where in the store the part begins.
-    pub fn value(self) -> u64
-        ensures { result ≡ lookup_value self }
-    {
-        match self {
-            Self::Hit { at, len: _ } => at as u64,
-            Self::LookupRefused(_) => 0,
-        }
-    }
-}
-
-impl ReportAnswer {
-    pub fn number(self) -> u64
-        ensures { result ≡ report_number self }
-    {
-        match self {
-            Self::Reported(_) => 0,
-            Self::NotReported(why) => why.number(),
-        }
-    }
-
-    // What was done: nothing beside a refusal.
-    pub fn report(self) -> Report
-        ensures { result ≡ reported self }
-    {
-        match self {
-            Self::Reported(report) => report,
-            Self::NotReported(_) => Report::nothing(),
-        }
-    }
-}
-
-fn judge_make(reading: u64, e: u64, base: u64, pages: u64, len: usize) -> Judged
+fn judge_make(reading: u64, e: u64, base: u64, pages: u64, len: usize) -> Answer<Geometry>
     ensures { result ≡ make_judged reading e base pages len }
 {
     if store::in_bounds(reading, e, base, pages) {
         let g = Geometry::new(reading, e, base, pages);
         if len == g.store_len() {
-            Judged::Accepted(g)
+            Ok(g)
         } else {
-            Judged::Rejected(Refusal::NoStore)
+            Err(Refusal::NoStore)
         }
     } else {
-        Judged::Rejected(Refusal::BadGeometry)
+        Err(Refusal::BadGeometry)
     }
 }
 
@@ -115,34 +60,28 @@ fn make_new(store: &mut [u8], g: Geometry)
 }
 
 // A new store over the lent bytes, whatever they were.
-pub fn make(store: &mut [u8], reading: u64, e: u64, base: u64, pages: u64) -> Answer
+pub fn make(store: &mut [u8], reading: u64, e: u64, base: u64, pages: u64) -> Answer<()>
     ensures { (result, store.new) ≡ make_call reading e base pages store.old }
 {
-    match judge_make(reading, e, base, pages, store.len()) {
-        Judged::Accepted(g) => {
-            make_new(store, g);
-            Answer::Done
-        }
-        Judged::Rejected(why) => Answer::Refused(why),
-    }
+    let g = judge_make(reading, e, base, pages, store.len())?;
+    make_new(store, g);
+    Ok(())
 }
 
 // Where the block at the address is, if the cache has it.
-pub fn find(store: &[u8], address: u64) -> LookupAnswer
+pub fn find(store: &[u8], address: u64) -> Answer<Hit>
     ensures { result ≡ lookup_call store.now address }
 {
-    let Opened::Sound(g) = store::open(store) else {
-        return LookupAnswer::LookupRefused(Refusal::NoStore);
-    };
+    let g = store::open(store).ok_or(Refusal::NoStore)?;
     if g.holds(address) {
         let at = g.place(address);
         if bits::doubleword_at(store, at) == address {
-            LookupAnswer::Hit { at, len: g.stride }
+            Ok(Hit { at, len: g.stride })
         } else {
-            LookupAnswer::LookupRefused(Refusal::NothingFound)
+            Err(Refusal::NothingFound)
         }
     } else {
-        LookupAnswer::LookupRefused(Refusal::NothingFound)
+        Err(Refusal::NothingFound)
     }
 }
 
@@ -151,32 +90,26 @@ pub fn lookup(store: &[u8], address: u64) -> &[u8]
     ensures { result.now ≡ lookup_part store.now (lookup_call store.now address) }
 {
     match find(store, address) {
-        LookupAnswer::Hit { at, len } => &store[at..at + len],
-        LookupAnswer::LookupRefused(_) => &store[..0],
+        Ok(Hit { at, len }) => &store[at..at + len],
+        Err(_) => &store[..0],
     }
 }
 
 // All places empty, no bit set.
-pub fn flush(store: &mut [u8]) -> Answer
+pub fn flush(store: &mut [u8]) -> Answer<()>
     ensures { (result, store.new) ≡ flush_call store.old }
 {
-    match store::open(store) {
-        Opened::Sound(g) => {
-            store::wipe(store, g);
-            Answer::Done
-        }
-        Opened::NotAStore => Answer::Refused(Refusal::NoStore),
-    }
+    let g = store::open(store).ok_or(Refusal::NoStore)?;
+    store::wipe(store, g);
+    Ok(())
 }
 
 // How many insertions there were, wrapping.
-pub fn generation(store: &[u8]) -> Valued
+pub fn generation(store: &[u8]) -> Answer<u64>
     ensures { result ≡ generation_call store.now }
 {
-    match store::open(store) {
-        Opened::Sound(_) => Valued::Value(store::generation(store)),
-        Opened::NotAStore => Valued::NoValue(Refusal::NoStore),
-    }
+    store::open(store).ok_or(Refusal::NoStore)?;
+    Ok(store::generation(store))
 }
 
 fn watched(store: &[u8], g: Geometry, address: u64) -> bool
@@ -225,32 +158,28 @@ pub fn sum(first: Report, second: Report) -> Report
 }
 
 // A write at the address was done. The notice comes after it and before the next lookup: a block inserted between notice and write would stay.
-pub fn notice(store: &mut [u8], address: u64) -> ReportAnswer
+pub fn notice(store: &mut [u8], address: u64) -> Answer<Report>
     ensures { (result, store.new) ≡ notice_call store.old address }
 {
-    match store::open(store) {
-        Opened::Sound(g) => ReportAnswer::Reported(notice_in(store, g, address)),
-        Opened::NotAStore => ReportAnswer::NotReported(Refusal::NoStore),
-    }
+    let g = store::open(store).ok_or(Refusal::NoStore)?;
+    Ok(notice_in(store, g, address))
 }
 
-fn judge_insert(store: &[u8], address: u64, record: &[u8]) -> Judged
+fn judge_insert(store: &[u8], address: u64, record: &[u8]) -> Answer<Geometry>
     ensures { result ≡ insert_judged (opened store.now) address «record».now }
 {
-    let Opened::Sound(g) = store::open(store) else {
-        return Judged::Rejected(Refusal::NoStore);
-    };
+    let g = store::open(store).ok_or(Refusal::NoStore)?;
     if record.len() != BlockRecord::LEN {
-        return Judged::Rejected(Refusal::WrongBuffer);
+        return Err(Refusal::WrongBuffer);
     }
     if g.holds(address) {
         if block::well_formed(record, address) {
-            Judged::Accepted(g)
+            Ok(g)
         } else {
-            Judged::Rejected(Refusal::IllFormed)
+            Err(Refusal::IllFormed)
         }
     } else {
-        Judged::Rejected(Refusal::OutsideMemory)
+        Err(Refusal::OutsideMemory)
     }
 }
 
@@ -259,7 +188,7 @@ fn write_record(place: &mut [u8], record: &[u8])
     requires { length place.old ≡ length «record».now }
     ensures { place.new ≡ «record».now }
 {
-    bits::copy_all(record, place);
+    place.copy_from_slice(record);
 }
 
 fn insert_in(store: &mut [u8], g: Geometry, address: u64, record: &[u8])
@@ -274,14 +203,10 @@ fn insert_in(store: &mut [u8], g: Geometry, address: u64, record: &[u8])
 }
 
 // The record into the place of its slot.
-pub fn insert(store: &mut [u8], address: u64, record: &[u8]) -> Answer
+pub fn insert(store: &mut [u8], address: u64, record: &[u8]) -> Answer<()>
     ensures { (result, store.new) ≡ insert_call store.old address «record».now }
 {
-    match judge_insert(store, address, record) {
-        Judged::Accepted(g) => {
-            insert_in(store, g, address, record);
-            Answer::Done
-        }
-        Judged::Rejected(why) => Answer::Refused(why),
-    }
+    let g = judge_insert(store, address, record)?;
+    insert_in(store, g, address, record);
+    Ok(())
 }

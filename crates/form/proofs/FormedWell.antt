@@ -13,8 +13,6 @@ use Rattle.op.specs.Reading.{Reading}
 use Rattle.op.specs.Record.{op_fields}
 use Rattle.op.specs.WellFormed.{ilen_known}
 use Rattle.op.specs.declared.Op.{Op}
-use Rattle.op.specs.declared.Decoded.{Decoded}
-use Rattle.op.specs.declared.Decoded.TheVariants.{Some, None}
 use Rattle.op.specs.Proper.{Proper}
 use Rattle.op.proofs.Proper.{proper_well}
 use Rattle.block.specs.Memory.{good_memory, in_memory, page_bytes, rest_of_page}
@@ -28,11 +26,12 @@ use Rattle.reading.proofs.Proper.{word_proper, half_proper}
 use Rattle.form.specs.ProperReading.{ProperReading}
 use Rattle.form.specs.Forming.{ilen_at, op_at, and_then, ops_from, formed}
 use Rattle.form.proofs.Kept.{op_by, Within, within}
+use Rattle.std.specs.Prelude.{Option, Some, None}
 
 pub reading_proper : (n : ℕ) → ProperReading (reading_of n)
 reading_proper n = record { words = word_proper n; halves = half_proper n }
 
-abbrev Well : Decoded → ℕ → Type 0
+abbrev Well : Option Op → ℕ → Type 0
 Well None ilen = Unit {0}
 Well (Some op) ilen = Proper op × (ilen_known (op_fields op).op ilen ≡ true)
 
@@ -78,7 +77,7 @@ module _ (s : List ℕ) (fits : length s ≤ 4096) (n at : ℕ) (inside : at ≤
   op_run op w i true e = one_more s fits n at inside op ilen [] w i refl (no_more s fits n (at + ilen) i.0 n)
   op_run op w i false e = one_more s fits n at inside op ilen next w i (rw e (or-true (eqb (length next) 0))) (later i.0)
 
-  then_run : (d : Decoded) → Well d ilen → Within s at d ilen → Run s (suc n) at (and_then d ilen next)
+  then_run : (d : Option Op) → Well d ilen → Within s at d ilen → Run s (suc n) at (and_then d ilen next)
   then_run None w i = no_more s fits n at inside (suc n)
   then_run (Some op) w i = op_run op w i (jumps (op_fields op).op) refl
 

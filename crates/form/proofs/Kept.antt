@@ -12,24 +12,23 @@ use Rattle.bits.specs.Bytes.{halfword_at, word_at}
 use Rattle.op.specs.Reading.{Reading}
 use Rattle.op.specs.declared.Op.{Op}
 use Rattle.op.specs.declared.Op.TheVariants.{Fallback}
-use Rattle.op.specs.declared.Decoded.{Decoded}
-use Rattle.op.specs.declared.Decoded.TheVariants.{Some, None}
 use Rattle.form.specs.Forming.{stops_block, or_fallback, ilen_at, op_at}
+use Rattle.std.specs.Prelude.{Option, Some, None}
 
-module _ (P : Decoded → ℕ → Type 0) (none : (ilen : ℕ) → P None ilen) where
-  half_case : (d : Decoded) → ((op : Op) → d ≡ Some op → P (Some op) 2) → P d 2
+module _ (P : Option Op → ℕ → Type 0) (none : (ilen : ℕ) → P None ilen) where
+  half_case : (d : Option Op) → ((op : Op) → d ≡ Some op → P (Some op) 2) → P d 2
   half_case (Some op) f = f op refl
   half_case None f = none 2
 
-  unless : (b : Bool) {d : Decoded} → P d 4 → P (cond b None d) 4
+  unless : (b : Bool) {d : Option Op} → P d 4 → P (cond b None d) 4
   unless true p = none 4
   unless false p = p
 
-  word_case : (raw : ℕ) (d : Decoded) → ((op : Op) → d ≡ Some op → P (Some op) 4) → P (Some (Fallback raw)) 4 → P (or_fallback raw d) 4
+  word_case : (raw : ℕ) (d : Option Op) → ((op : Op) → d ≡ Some op → P (Some op) 4) → P (Some (Fallback raw)) 4 → P (or_fallback raw d) 4
   word_case raw (Some op) f g = f op refl
   word_case raw None f g = unless (stops_block raw) g
 
-  chosen : (a b c : Bool) (w h : Decoded) → (c ≡ false → P w 4) → (a ≡ false → P h 2) → P (cond a None (cond (eqb (cond b 4 2) 2) h (cond c None w))) (cond b 4 2)
+  chosen : (a b c : Bool) (w h : Option Op) → (c ≡ false → P w 4) → (a ≡ false → P h 2) → P (cond a None (cond (eqb (cond b 4 2) 2) h (cond c None w))) (cond b 4 2)
   chosen true b c w h f g = none (cond b 4 2)
   chosen false true true w h f g = none 4
   chosen false true false w h f g = f refl
@@ -47,7 +46,7 @@ module _ (P : Decoded → ℕ → Type 0) (none : (ilen : ℕ) → P None ilen) 
       (λ e. half_case (r.of_half (halfword_at s at)) (half (ltb-false _ _ e)))
 
 -- an op lies within s
-abbrev pub Within : List ℕ → ℕ → Decoded → ℕ → Type 0
+abbrev pub Within : List ℕ → ℕ → Option Op → ℕ → Type 0
 Within s at None ilen = Unit {0}
 Within s at (Some op) ilen = (at + ilen ≤ length s) × (2 ≤ ilen) × (ilen ≤ 4)
 

@@ -11,12 +11,12 @@ use Rattle.bits.proofs.Bytes.{length-patch, patch-append, patch_nothing}
 use Rattle.op.specs.Reading.{Reading}
 use Rattle.op.specs.Record.{op_fields, op_record}
 use Rattle.op.specs.declared.Op.{Op}
-use Rattle.op.specs.declared.Decoded.TheVariants.{Some, None}
 use Rattle.op.proofs.Record.{length_record}
 use Rattle.block.specs.Record.{Insn, insn, op_records, byte_len}
 use Rattle.block.specs.WellFormed.{jumps}
 use Rattle.form.specs.Forming.{ilen_at, op_at, ops_from}
 use Rattle.form.specs.Written.{Written}
+use Rattle.std.specs.Prelude.{Some, None}
 
 module _ (r : Reading) (s : List ℕ) (n at : ℕ) where
   pub ops_full : 64 ≤ n → ops_from r s (64 - n) at ≡ []

@@ -8,27 +8,28 @@ use lib.ListN.{length, take, drop, replicate, length-append, length-drop, drop_o
 use lib.Seq.{length-take-le, take_at, drop_at}
 use borrow.Rule.Slice.PartMut.{mid_of, mid_len, put_mid}
 use Rattle.answer.specs.declared.Refusal.TheVariants.{NoOp}
-use Rattle.answer.specs.declared.Answer.TheVariants.{Done, Refused}
 use Rattle.bits.specs.Bytes.{le, patch}
 use Rattle.bits.proofs.Bytes.{length-patch, patch_nothing}
 use Rattle.block.specs.Record.{Insn, head_bytes, op_records, block_record}
 use Rattle.block.proofs.Records.{length-op_records}
 use Rattle.form.specs.Call.{formed_into}
 use Rattle.form.specs.Written.{Written}
+use Rattle.answer.specs.Answer.{done}
+use Rattle.std.specs.Prelude.{Err}
 
-pub refused : (address : ℕ) (ops : List Insn) (old lent : List ℕ) → length ops ≡ 0 → lent ≡ patch old 16 (op_records 0 ops) → (Refused NoOp, lent) ≡ formed_into Done address ops old
+pub refused : (address : ℕ) (ops : List Insn) (old lent : List ℕ) → length ops ≡ 0 → lent ≡ patch old 16 (op_records 0 ops) → (Err NoOp, lent) ≡ formed_into done address ops old
 unfolding op_records
-refused address [] old lent n e = ap (λ (s : List ℕ). (Refused NoOp, s)) (e ∙ patch_nothing old 16)
+refused address [] old lent n e = ap (λ (s : List ℕ). (Err NoOp, s)) (e ∙ patch_nothing old 16)
 refused address (first ∷ rest) old lent n e = absurd (let z : suc (length rest) ≡ 0 = n in omega arith)
 
-some_record : (address : ℕ) (ops : List Insn) (old : List ℕ) → (length ops ≡ 0 → ⊥) → (Done, block_record address ops) ≡ formed_into Done address ops old
+some_record : (address : ℕ) (ops : List Insn) (old : List ℕ) → (length ops ≡ 0 → ⊥) → (done, block_record address ops) ≡ formed_into done address ops old
 some_record address [] old some = absurd (some refl)
 some_record address (first ∷ rest) old some = refl
 
 -- the records, zeros behind them, and then the head
 pub sealed : (address : ℕ) (ops : List Insn) (old lent zeros : List ℕ) (n len : ℕ) → (n ≡ 0 → ⊥) → length old ≡ 1040 → Written ops old lent n len
     → zeros ≡ replicate (length (mid_of (16 + n * 16) (length lent - (16 + n * 16)) lent)) 0
-    → (Done, patch (put_mid (16 + n * 16) (length lent - (16 + n * 16)) lent zeros) 0 (head_bytes address n len)) ≡ formed_into Done address ops old
+    → (done, patch (put_mid (16 + n * 16) (length lent - (16 + n * 16)) lent zeros) 0 (head_bytes address n len)) ≡ formed_into done address ops old
 unfolding block_record patch le
 sealed address ops old lent zeros n len some l w z =
     let recs = op_records 0 ops in

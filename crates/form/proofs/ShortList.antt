@@ -10,13 +10,11 @@ use lib.IntN.{pos}
 use borrow.Author.Tests.{eqb-true}
 use lib.ListN.{length}
 use Rattle.answer.specs.declared.Refusal.TheVariants.{NoOp}
-use Rattle.answer.specs.declared.Answer.TheVariants.{Done, Refused}
 use Rattle.bits.specs.Bytes.{halfword_at}
 use Rattle.bits.proofs.Tests.{true_false}
 use Rattle.op.specs.Record.{op_fields}
 use Rattle.op.specs.declared.AluKind.TheVariants.{Add}
 use Rattle.op.specs.declared.Op.TheVariants.{Lui, AluImm}
-use Rattle.op.specs.declared.Decoded.TheVariants.{Some, None}
 use Rattle.halfword.specs.Instruction.{rd}
 use Rattle.agree.specs.Differences.{listed}
 use Rattle.agree.specs.ShortList.{missed_entries, missed_op}
@@ -30,6 +28,8 @@ use Rattle.form.specs.Call.{form_judged, formed_into, form_call}
 use Rattle.form.specs.ShortList.{short, form_short, missed_at, meets_missed}
 use Rattle.form.proofs.Parts.{missed_part}
 use Rattle.form.proofs.TwoReadings.{parted_alike, ends_before, forms_alike, forms_alike_only}
+use Rattle.answer.specs.Answer.{done}
+use Rattle.std.specs.Prelude.{Some, None, Err}
 
 -- what stands at a missed halfword's offset
 module _ (s : List ℕ) (at : ℕ) (h : missed_at s at ≡ true) where
@@ -74,7 +74,7 @@ module _ (memory : List ℕ) (base address : ℕ) (lent : List ℕ) where
       forms_alike missed_part memory base address lent (form_judged 1 (length memory) (length lent) base address)
 
   -- and one that is the same met none
-  pub short_same_only : form_judged 1 (length memory) (length lent) base address ≡ Done → form_call 1 memory base address lent ≡ form_short memory base address lent
+  pub short_same_only : form_judged 1 (length memory) (length lent) base address ≡ done → form_call 1 memory base address lent ≡ form_short memory base address lent
       → meets_missed memory base address ≡ false
   unfolding form_call reading_of
   short_same_only judged e =
@@ -101,13 +101,13 @@ module _ (memory : List ℕ) (base address : ℕ) (lent : List ℕ) where
   none_first h = rw (none_there rest 0 h) refl
 
   -- so there the manual's block is the ops in front of it and no others, and none forms where it stands first
-  pub ends_before_missed : form_judged 1 (length memory) (length lent) base address ≡ Done → meets_missed memory base address ≡ true
-      → form_call 1 memory base address lent ≡ cond (missed_at rest 0) (Refused NoOp, lent) (Done, block_record address ops)
+  pub ends_before_missed : form_judged 1 (length memory) (length lent) base address ≡ done → meets_missed memory base address ≡ true
+      → form_call 1 memory base address lent ≡ cond (missed_at rest 0) (Err NoOp, lent) (done, block_record address ops)
   unfolding form_call reading_of byte_len
   ends_before_missed judged h = rw judged (by (missed_at rest 0) refl ops none_first (short_goes_on h).0)
     where
       by : (b : Bool) → missed_at rest 0 ≡ b → (found : List Insn) → (missed_at rest 0 ≡ true → found ≡ []) → missed_at rest (byte_len found) ≡ true
-          → formed_into Done address found lent ≡ cond b (Refused NoOp, lent) (Done, block_record address found)
+          → formed_into done address found lent ≡ cond b (Err NoOp, lent) (done, block_record address found)
       by true e found first h = rw (first e) refl
       by false e [] first h = absurd (true_false h e)
       by false e (op ∷ found) first h = refl

@@ -8,52 +8,50 @@ use Rattle.bits.specs.Bytes.{patch}
 use Rattle.op.specs.Record.{op_fields, op_record}
 use Rattle.op.specs.declared.Op.{Op}
 use Rattle.op.specs.declared.Op.TheVariants.{Fallback}
-use Rattle.op.specs.declared.Decoded.{Decoded}
-use Rattle.op.specs.declared.Decoded.TheVariants.{Some, None}
 use Rattle.decode.specs.Call.{put_of}
-use Rattle.decode.specs.declared.Put.{Put}
-use Rattle.decode.specs.declared.Put.TheVariants.{Recorded, Nothing}
 use Rattle.form.specs.Forming.{stops_block, or_fallback}
+use Rattle.decode.specs.declared.Recorded.{Recorded}
+use Rattle.std.specs.Prelude.{Option, Some, None}
 
 -- what a record that was put tells
-pub record Taking (d : Decoded) (len place at : ℕ) (s t : List ℕ) (n ilen : ℕ) : Type 0 where
+pub record Taking (d : Option Op) (len place at : ℕ) (s t : List ℕ) (n ilen : ℕ) : Type 0 where
   pub op : Op
   pub is : d ≡ Some op
   pub number : n ≡ (op_fields op).op
   pub long : len ≡ ilen
   pub wrote : t ≡ patch s place (op_record op ilen at)
 
-module _ (len place at : ℕ) (s : List ℕ) {t : List ℕ} {p : Put} where
-  pub took : (d : Decoded) {n ilen : ℕ} → p ≡ Recorded n ilen → (p, t) ≡ put_of d len place at s → Taking d len place at s t n ilen
+module _ (len place at : ℕ) (s : List ℕ) {t : List ℕ} {p : Option Recorded} where
+  pub took : (d : Option Op) {n ilen : ℕ} → p ≡ Recorded n ilen → (p, t) ≡ put_of d len place at s → Taking d len place at s t n ilen
   took (Some op) {n} {ilen} told e =
-      let same : p ≡ Recorded (op_fields op).op len = ap (λ (o : Put × List ℕ). o.0) e in
+      let same : p ≡ Recorded (op_fields op).op len = ap (λ (o : Option Recorded × List ℕ). o.0) e in
       let long : len ≡ ilen = cc in
       record {
         op = op;
         is = refl;
         number = cc;
         long = long;
-        wrote = ap (λ (o : Put × List ℕ). o.1) e ∙ ap (λ (k : ℕ). patch s place (op_record op k at)) long;
+        wrote = ap (λ (o : Option Recorded × List ℕ). o.1) e ∙ ap (λ (k : ℕ). patch s place (op_record op k at)) long;
       }
   took None told e =
-      let same : p ≡ Nothing = ap (λ (o : Put × List ℕ). o.0) e in
+      let same : p ≡ None = ap (λ (o : Option Recorded × List ℕ). o.0) e in
       record { op = Fallback 0; is = cc; number = cc; long = cc; wrote = cc }
 
-  pub stopped : (d : Decoded) → p ≡ Nothing → (p, t) ≡ put_of d len place at s → (d ≡ None) × (t ≡ s)
-  stopped None told e = (refl, ap (λ (o : Put × List ℕ). o.1) e)
-  stopped (Some op) told e = let same : p ≡ Recorded (op_fields op).op len = ap (λ (o : Put × List ℕ). o.0) e in (cc, cc)
+  pub stopped : (d : Option Op) → p ≡ None → (p, t) ≡ put_of d len place at s → (d ≡ None) × (t ≡ s)
+  stopped None told e = (refl, ap (λ (o : Option Recorded × List ℕ). o.1) e)
+  stopped (Some op) told e = let same : p ≡ Recorded (op_fields op).op len = ap (λ (o : Option Recorded × List ℕ). o.0) e in (cc, cc)
 
   -- an op that was decoded is kept, whatever is made of none
-  pub kept : (f : Decoded → Decoded) → ((op : Op) → f (Some op) ≡ Some op) → (d : Decoded) {n ilen : ℕ} → p ≡ Recorded n ilen → (p, t) ≡ put_of d len place at s
+  pub kept : (f : Option Op → Option Op) → ((op : Op) → f (Some op) ≡ Some op) → (d : Option Op) {n ilen : ℕ} → p ≡ Recorded n ilen → (p, t) ≡ put_of d len place at s
       → (Recorded n len, t) ≡ put_of (f d) len place at s
   kept f same (Some op) {n} told e =
-      let put : p ≡ Recorded (op_fields op).op len = ap (λ (o : Put × List ℕ). o.0) e in
+      let put : p ≡ Recorded (op_fields op).op len = ap (λ (o : Option Recorded × List ℕ). o.0) e in
       let number : n ≡ (op_fields op).op = cc in
-      rw (same op, number) (ap (λ (o : Put × List ℕ). (Recorded (op_fields op).op len, o.1)) e)
-  kept f same None told e = let put : p ≡ Nothing = ap (λ (o : Put × List ℕ). o.0) e in cc
+      rw (same op, number) (ap (λ (o : Option Recorded × List ℕ). (Recorded (op_fields op).op len, o.1)) e)
+  kept f same None told e = let put : p ≡ None = ap (λ (o : Option Recorded × List ℕ). o.0) e in cc
 
-module _ (place at : ℕ) (s : List ℕ) {t : List ℕ} (raw : ℕ) (d : Decoded) (h : (d ≡ None) × (t ≡ s)) where
-  pub word_stopped : stops_block raw ≡ true → (Nothing, t) ≡ put_of (or_fallback raw d) 4 place at s
+module _ (place at : ℕ) (s : List ℕ) {t : List ℕ} (raw : ℕ) (d : Option Op) (h : (d ≡ None) × (t ≡ s)) where
+  pub word_stopped : stops_block raw ≡ true → (None, t) ≡ put_of (or_fallback raw d) 4 place at s
   word_stopped e = rw (h.0, h.1, e)
 
   pub word_fallback : {u : List ℕ} → stops_block raw ≡ false → u ≡ patch t place (op_record (Fallback raw) 4 at) → (Recorded 9 4, u) ≡ put_of (or_fallback raw d) 4 place at s

@@ -9,16 +9,12 @@ use lib.Dec.{eqb, ltb}
 use lib.ListN.{length, get_or, drop, replicate}
 use lib.Seq.{drop_at}
 use Rattle.answer.specs.declared.Refusal.TheVariants.{NoOp}
-use Rattle.answer.specs.declared.Answer.{Answer}
-use Rattle.answer.specs.declared.Answer.TheVariants.{Done}
 use Rattle.bits.specs.Bytes.{halfword_at, word_at}
 use Rattle.bits.proofs.Tests.{not_true, true_false}
 use Rattle.op.specs.Reading.{Reading}
 use Rattle.op.specs.Record.{fallback_number, op_fields, op_record}
 use Rattle.op.specs.declared.Op.{Op}
 use Rattle.op.specs.declared.Op.TheVariants.{Fallback}
-use Rattle.op.specs.declared.Decoded.{Decoded}
-use Rattle.op.specs.declared.Decoded.TheVariants.{Some, None}
 use Rattle.op.proofs.Record.{length_record}
 use Rattle.agree.proofs.Entries.{lead}
 use Rattle.reading.proofs.Proper.{ProperIn}
@@ -30,6 +26,8 @@ use Rattle.form.specs.Forming.{stops_block, or_fallback, ilen_at, op_at, and_the
 use Rattle.form.specs.Walk.{goes_on, meets, stands_at, walk_meets}
 use Rattle.form.specs.Call.{formed_into}
 use Rattle.form.proofs.Judged.{not_done}
+use Rattle.answer.specs.Answer.{Answer, done}
+use Rattle.std.specs.Prelude.{Option, Some, None}
 
 neither : (a b : Bool) → (a || b) ≡ false → (a ≡ false) × (b ≡ false)
 neither false b h = (refl, h)
@@ -37,7 +35,7 @@ neither true b h = absurd (true_false refl h)
 
 -- one step of the walk, with what each reading finds behind it
 module _ (ilen : ℕ) (X Y : List Insn) (m : Bool) where
-  step_same : (d : Decoded) → goes_on d m ≡ false → (m ≡ false → X ≡ Y) → and_then d ilen X ≡ and_then d ilen Y
+  step_same : (d : Option Op) → goes_on d m ≡ false → (m ≡ false → X ≡ Y) → and_then d ilen X ≡ and_then d ilen Y
   step_same None h f = refl
   step_same (Some op) h f = ap (λ (next : List Insn). insn op ilen ∷ next) (by (jumps (op_fields op).op) h)
     where
@@ -47,7 +45,7 @@ module _ (ilen : ℕ) (X Y : List Insn) (m : Bool) where
 
   module _ (at : ℕ) (z z' : List ℕ) where
     -- records that are the same lead with the same op and kind
-    leads : (d d' : Decoded) → length (and_then d ilen X) ≡ length (and_then d' ilen Y)
+    leads : (d d' : Option Op) → length (and_then d ilen X) ≡ length (and_then d' ilen Y)
         → op_records at (and_then d ilen X) ++ z ≡ op_records at (and_then d' ilen Y) ++ z' → lead d ≡ lead d'
     unfolding op_records
     leads None None l e = refl
@@ -56,7 +54,7 @@ module _ (ilen : ℕ) (X Y : List Insn) (m : Bool) where
     leads (Some op) (Some op') l e = ap₂ (λ (n k : ℕ). n ∷ k ∷ []) (ap (λ (s : List ℕ). get_or s 0 0) e) (ap (λ (s : List ℕ). get_or s 1 0) e)
 
     -- behind an op that both have, what is left is the same too
-    step_on : (d : Decoded) → goes_on d m ≡ true → length (and_then d ilen X) ≡ length (and_then d ilen Y)
+    step_on : (d : Option Op) → goes_on d m ≡ true → length (and_then d ilen X) ≡ length (and_then d ilen Y)
         → op_records at (and_then d ilen X) ++ z ≡ op_records at (and_then d ilen Y) ++ z'
         → (m ≡ true) × (length X ≡ length Y) × (op_records (at + ilen) X ++ z ≡ op_records (at + ilen) Y ++ z')
     unfolding op_records
@@ -81,7 +79,7 @@ module _ (r r' : Reading) (s : List ℕ) (asked : ℕ → Bool) (alike : (at : �
       let ilen = ilen_at s at in
       let k = neither (asked at) (goes_on (op_at r s at) (meets asked r s n (at + ilen))) h in
       step_same ilen (ops_from r s n (at + ilen)) (ops_from r' s n (at + ilen)) (meets asked r s n (at + ilen)) (op_at r s at) k.1 (same_ops n (at + ilen))
-      ∙ ap (λ (d : Decoded). and_then d ilen (ops_from r' s n (at + ilen))) (alike at k.0)
+      ∙ ap (λ (d : Option Op). and_then d ilen (ops_from r' s n (at + ilen))) (alike at k.0)
 
   -- the walk is the same in both, up to where they part
   pub same_walk : (n at : ℕ) → meets asked r s n at ≡ meets asked r' s n at
@@ -116,7 +114,7 @@ module _ (r r' : Reading) (s : List ℕ) (asked : ℕ → Bool) (alike : (at : �
     abbrev Ends : ℕ → ℕ → List Insn → List Insn → Type 0
     Ends n at front other = (asked (at + byte_len front) ≡ true) × (length front < n) × (other ≡ front ++ ops_from r' s (n - length front) (at + byte_len front))
 
-    on_ends : (n at : ℕ) (X Y : List Insn) (m : Bool) (d : Decoded) → goes_on d m ≡ true → (m ≡ true → Ends n (at + ilen_at s at) X Y)
+    on_ends : (n at : ℕ) (X Y : List Insn) (m : Bool) (d : Option Op) → goes_on d m ≡ true → (m ≡ true → Ends n (at + ilen_at s at) X Y)
         → Ends (suc n) at (and_then d (ilen_at s at) X) (and_then d (ilen_at s at) Y)
     unfolding byte_len
     on_ends n at X Y m None h later = absurd (true_false h refl)
@@ -153,32 +151,32 @@ ops_few r s (suc n) at = by (op_at r s at) (ops_from r s n (at + ilen_at s at)) 
     one true next h = omega arith
     one false next h = omega arith
 
-    by : (d : Decoded) (next : List Insn) → length next ≤ n → length (and_then d (ilen_at s at) next) ≤ suc n
+    by : (d : Option Op) (next : List Insn) → length next ≤ n → length (and_then d (ilen_at s at) next) ≤ suc n
     by None next h = omega arith
     by (Some op) next h = one (jumps (op_fields op).op) next h
 
 -- a call that may begin tells how many ops it found, and their records
 module _ (address : ℕ) (lent : List ℕ) where
-  into_tells : (ops other : List Insn) → length ops ≤ 64 → length other ≤ 64 → formed_into Done address ops lent ≡ formed_into Done address other lent
+  into_tells : (ops other : List Insn) → length ops ≤ 64 → length other ≤ 64 → formed_into done address ops lent ≡ formed_into done address other lent
       → (length ops ≡ length other) × (op_records 0 ops ++ replicate (1024 - 16 * length ops) 0 ≡ op_records 0 other ++ replicate (1024 - 16 * length other) 0)
   into_tells [] [] h k e = (refl, refl)
-  into_tells [] (b ∷ other) h k e = absurd (not_done NoOp (ap (λ (o : Answer × List ℕ). o.0) e))
-  into_tells (a ∷ ops) [] h k e = absurd (not_done NoOp (sym (ap (λ (o : Answer × List ℕ). o.0) e)))
-  into_tells (a ∷ ops) (b ∷ other) h k e = record_tells address (a ∷ ops) (b ∷ other) h k (ap (λ (o : Answer × List ℕ). o.1) e)
+  into_tells [] (b ∷ other) h k e = absurd (not_done NoOp (ap (λ (o : Answer (Unit {0}) × List ℕ). o.0) e))
+  into_tells (a ∷ ops) [] h k e = absurd (not_done NoOp (sym (ap (λ (o : Answer (Unit {0}) × List ℕ). o.0) e)))
+  into_tells (a ∷ ops) (b ∷ other) h k e = record_tells address (a ∷ ops) (b ∷ other) h k (ap (λ (o : Answer (Unit {0}) × List ℕ). o.1) e)
 
 -- a word that is kept in either reading, where one may be kept as Fallback
 fell : (raw : ℕ) (op : Op) → eqb (op_fields op).op fallback_number ≡ false → (b : Bool) → lead (Some op) ≡ lead (cond b None (Some (Fallback raw))) → ⊥
 fell raw op n true e = let no : suc (suc zero) ≡ zero = ap length e in omega arith
 fell raw op n false e = let is : (op_fields op).op ≡ fallback_number = ap (λ (s : List ℕ). get_or s 0 0) e in true_false refl (rw is at n)
 
-kept_unlike : (raw : ℕ) (d d' : Decoded) → ProperIn d → ProperIn d' → (lead d ≡ lead d' → ⊥) → lead (or_fallback raw d) ≡ lead (or_fallback raw d') → ⊥
+kept_unlike : (raw : ℕ) (d d' : Option Op) → ProperIn d → ProperIn d' → (lead d ≡ lead d' → ⊥) → lead (or_fallback raw d) ≡ lead (or_fallback raw d') → ⊥
 kept_unlike raw None None p p' u e = u refl
 kept_unlike raw None (Some op) p p' u e = fell raw op (p' op refl).0 (stops_block raw) (sym e)
 kept_unlike raw (Some op) None p p' u e = fell raw op (p op refl).0 (stops_block raw) e
 kept_unlike raw (Some op) (Some op') p p' u e = u e
 
 -- forming in any reading, behind the checks
-abbrev formed_by : Answer → Reading → List ℕ → ℕ → ℕ → List ℕ → Answer × List ℕ
+abbrev formed_by : Answer (Unit {0}) → Reading → List ℕ → ℕ → ℕ → List ℕ → Answer (Unit {0}) × List ℕ
 formed_by judged reading memory base address lent = formed_into judged address (formed reading memory base address) lent
 
 -- two readings that part at these halfwords and words: elsewhere they read alike, and there they differ in more than operands
@@ -217,13 +215,13 @@ module _ {r r' : Reading} {half word : ℕ → Bool} (p : Part r r' half word) w
 
   module _ (memory : List ℕ) (base address : ℕ) (lent : List ℕ) where
     -- a block whose walk meets none of these is the same in both
-    pub forms_alike : (judged : Answer) → walk_meets parted r memory base address ≡ false → formed_by judged r memory base address lent ≡ formed_by judged r' memory base address lent
+    pub forms_alike : (judged : Answer (Unit {0})) → walk_meets parted r memory base address ≡ false → formed_by judged r memory base address lent ≡ formed_by judged r' memory base address lent
     forms_alike judged h =
         let s = rest_of_page memory base address in
         ap (λ (ops : List Insn). formed_into judged address ops lent) (same_ops r r' s (parted s) (parted_alike s) 64 0 h)
 
     -- and one that is the same met none
-    pub forms_alike_only : formed_by Done r memory base address lent ≡ formed_by Done r' memory base address lent → walk_meets parted r memory base address ≡ false
+    pub forms_alike_only : formed_by done r memory base address lent ≡ formed_by done r' memory base address lent → walk_meets parted r memory base address ≡ false
     forms_alike_only e =
         let s = rest_of_page memory base address in
         let t = into_tells address lent (ops_from r s 64 0) (ops_from r' s 64 0) (ops_few r s 64 0) (ops_few r' s 64 0) e in

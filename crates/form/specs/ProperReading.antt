@@ -1,10 +1,9 @@
 -- A reading whose blocks are well formed.
 -- Assumes nothing.
-use Rattle.std.specs.Prelude.{◌≡◌, false, ℕ, eqb}
+use Rattle.std.specs.Prelude.{◌≡◌, false, ℕ, eqb, Some}
 use Rattle.op.specs.Reading.{Reading}
 use Rattle.op.specs.Record.{fallback_number, op_fields}
 use Rattle.op.specs.declared.Op.{Op}
-use Rattle.op.specs.declared.Decoded.TheVariants.{Some}
 use Rattle.op.specs.Proper.{Proper}
 
 -- it gives proper ops, and never a Fallback

@@ -1,19 +1,18 @@
 -- The walk of a block, from op to op through the bytes from its address to the end of the page: what it meets before it ends.
 -- Assumes nothing.
-use Rattle.std.specs.Prelude.{ℕ, zero, suc, ◌+◌, Bool, false, cond, ◌||◌, List, eqb, ltb, length}
+use Rattle.std.specs.Prelude.{ℕ, zero, suc, ◌+◌, Bool, false, cond, ◌||◌, List, eqb, ltb, length, Option, Some, None}
 use Rattle.bits.specs.Bytes.{halfword_at, word_at}
 use Rattle.op.specs.Reading.{Reading}
 use Rattle.op.specs.Record.{op_fields}
-use Rattle.op.specs.declared.Decoded.{Decoded}
-use Rattle.op.specs.declared.Decoded.TheVariants.{Some, None}
 use Rattle.agree.specs.Differences.{listed, word_entries, half_entries}
 use Rattle.reading.specs.Readings.{rust}
 use Rattle.block.specs.Memory.{rest_of_page}
 use Rattle.block.specs.WellFormed.{jumps}
 use Rattle.form.specs.Forming.{ilen_at, op_at}
+use Rattle.op.specs.declared.Op.{Op}
 
 -- the block goes on behind an op that does not jump
-abbrev pub goes_on : Decoded → Bool → Bool
+abbrev pub goes_on : Option Op → Bool → Bool
 goes_on None next = false
 goes_on (Some op) next = cond (jumps (op_fields op).op) false next
 

@@ -8,7 +8,6 @@ use lib.ListN.{length}
 use Rattle.cache.specs.Answers.{nothing_done, reported}
 use Rattle.cache.specs.Calls.{make_judged, make_call, notice_call, summed}
 use Rattle.cache.specs.declared.Report.{Report}
-use Rattle.cache.specs.declared.ReportAnswer.{ReportAnswer}
 use Rattle.cache.proofs.Reports.{summed-none}
 use Rattle.notices.specs.Notices.{notices_call}
 use Rattle.notices.specs.Pages.{names}
@@ -18,6 +17,7 @@ use Rattle.guarantee.specs.Calls.{notice, notices, Call, make, uses, Lent, stori
 use Rattle.guarantee.specs.Past.{Past, unmade, since, page_of, if_accepted, touches, events, grown, past, past_of}
 use Rattle.guarantee.specs.Answers.{spent}
 use Rattle.guarantee.proofs.Spent.{turned}
+use Rattle.answer.specs.Answer.{Answer}
 
 -- whatever a list of calls tells, if an empty list of notices adds nothing to it and any other its first notice before the rest
 module _ {A : Type 0} (tells : List Call → A) (none : (calls : List Call) → tells (uses (notices []) ∷ calls) ≡ tells calls) (next : (a : ℕ) (rest : List ℕ) (calls : List Call) → tells (uses (notices (a ∷ rest)) ∷ calls) ≡ tells (uses (notices rest) ∷ uses (notice a) ∷ calls)) where
@@ -94,7 +94,7 @@ module _ (l : Lent) where
 module _ (l : Lent) (one two : List ℕ) (same : (page : ℕ) → names one page ≡ names two page) where
   same_run : (calls : List Call) → run (each_notice one ++ calls) l ≡ run (each_notice two ++ calls) l
   unfolding run done
-  same_run calls = sym (newest_run l one calls) ∙ ap (λ (r : ReportAnswer × List ℕ). storing (run calls l) r.1) (same_pages (run calls l).store one two same) ∙ newest_run l two calls
+  same_run calls = sym (newest_run l one calls) ∙ ap (λ (r : Answer Report × List ℕ). storing (run calls l) r.1) (same_pages (run calls l).store one two same) ∙ newest_run l two calls
 
   pub order_run : (later calls : List Call) → run (later ++ (each_notice one ++ calls)) l ≡ run (later ++ (each_notice two ++ calls)) l
   order_run later calls = later_run l later (each_notice one ++ calls) (each_notice two ++ calls) (same_run calls)
@@ -104,7 +104,7 @@ module _ (l : Lent) (one two : List ℕ) (same : (page : ℕ) → names one page
     unfolding spent run done
     same_spent calls =
         sym (newest_spent l p one calls)
-        ∙ ap (λ (r : ReportAnswer × List ℕ). summed (reported r.0) (spent p calls l)) (same_pages (run calls l).store one two same)
+        ∙ ap (λ (r : Answer Report × List ℕ). summed (reported r.0) (spent p calls l)) (same_pages (run calls l).store one two same)
         ∙ newest_spent l p two calls
 
     pub order_spent : (later calls : List Call) → spent p (later ++ (each_notice one ++ calls)) l ≡ spent p (later ++ (each_notice two ++ calls)) l

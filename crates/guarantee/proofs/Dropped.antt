@@ -16,15 +16,9 @@ use Rattle.bits.proofs.Tests.{or_right}
 use Rattle.answer.specs.declared.Refusal.{Refusal}
 use Rattle.store.specs.Layout.{slot_of}
 use Rattle.store.specs.declared.Geometry.{Geometry}
-use Rattle.store.specs.declared.Opened.{Opened}
-use Rattle.store.specs.declared.Opened.TheVariants.{Sound}
 use Rattle.cache.specs.Answers.{lookup_number, reported}
 use Rattle.cache.specs.Calls.{report_in, summed, notice_by, notice_call}
-use Rattle.cache.specs.declared.Judged.{Judged}
-use Rattle.cache.specs.declared.Judged.TheVariants.{Accepted, Rejected}
 use Rattle.cache.specs.declared.Report.{Report}
-use Rattle.cache.specs.declared.ReportAnswer.{ReportAnswer}
-use Rattle.cache.specs.declared.ReportAnswer.TheVariants.{Reported, NotReported}
 use Rattle.notices.specs.Notices.{notices_call}
 use Rattle.notices.specs.Pages.{names, report_once}
 use Rattle.notices.proofs.Order.{report_once_lem}
@@ -39,8 +33,10 @@ use Rattle.guarantee.proofs.Simulation.{first_of, in_page_lem, notice-reports}
 use Rattle.guarantee.proofs.Lookup.{lookup-is}
 use Rattle.guarantee.proofs.Run.{write_own}
 use Rattle.guarantee.proofs.Guarantee.{stands, notice_answers}
+use Rattle.answer.specs.Answer.{Answer}
+use Rattle.std.specs.Prelude.{Option, Some, Ok, Err}
 
-abbrev dropped_of : ReportAnswer → ℕ
+abbrev dropped_of : Answer Report → ℕ
 dropped_of answer = (reported answer).dropped
 
 -- a page has hits exactly when one of its addresses does, in any bytes
@@ -126,17 +122,17 @@ module _ (g : Geometry) (h : List Event) (s : List ℕ) (y : Stands g h s) where
     where
       go : (t : Bool) → names rest (page_of a) ≡ t → (report_once s rest).dropped ≡ hits_over s rest → (report_once s (a ∷ rest)).dropped ≡ hits_over s (a ∷ rest)
       go true n ih = rw n ih
-      go false n ih = rw n (ap₂ ◌+◌ (ap (λ (o : Opened). dropped_of (notice_by o s a).0) y.sound ∙ notice_drops a) ih)
+      go false n ih = rw n (ap₂ ◌+◌ (ap (λ (o : Option Geometry). dropped_of (notice_by o s a).0) y.sound ∙ notice_drops a) ih)
 
-  write_drops : (m : List ℕ) (a n v : ℕ) (r : Report) → (write_call s m a n v).0 ≡ Reported r → r.dropped ≡ hits_across s a (a + n - 1)
-  write_drops m a n v r q = go (write_judged (Sound g) (length m) a n) refl (rw y.sound at q)
+  write_drops : (m : List ℕ) (a n v : ℕ) (r : Report) → (write_call s m a n v).0 ≡ Ok r → r.dropped ≡ hits_across s a (a + n - 1)
+  write_drops m a n v r q = go (write_judged (Some g) (length m) a n) refl (rw y.sound at q)
     where
-      refused : (why : Refusal) → NotReported why ≡ Reported r → ⊥
+      refused : (why : Refusal) → Err why ≡ Ok r → ⊥
       refused why k = let z : ◌≡◌ {A = ℕ} 0 1 = cc in omega arith
 
-      go : (j : Judged) → write_judged (Sound g) (length m) a n ≡ j → (write_by (write_judged (Sound g) (length m) a n) s m a n v).0 ≡ Reported r → r.dropped ≡ hits_across s a (a + n - 1)
-      go (Accepted k) e u = let own = write_own g h s y (length m) a n k e in ap dropped_of (sym (rw own.0 at u)) ∙ pages_drop a (a + n - 1)
-      go (Rejected why) e u = absurd (refused why (rw e at u))
+      go : (j : Answer Geometry) → write_judged (Some g) (length m) a n ≡ j → (write_by (write_judged (Some g) (length m) a n) s m a n v).0 ≡ Ok r → r.dropped ≡ hits_across s a (a + n - 1)
+      go (Ok k) e u = let own = write_own g h s y (length m) a n k e in ap dropped_of (sym (rw own.0 at u)) ∙ pages_drop a (a + n - 1)
+      go (Err why) e u = absurd (refused why (rw e at u))
 
 module _ (p : Past) (l : Lent) (start : Follows p l.store) (calls : List Call) (g : Geometry) (h : List Event) (is : past_of p calls l ≡ since g h) where
   -- a notice: the number, and that it is above 0 exactly when an address of the page hit just before
@@ -162,7 +158,7 @@ module _ (p : Past) (l : Lent) (start : Follows p l.store) (calls : List Call) (
     live_notices_dropped w = subst (λ (k : ℕ). 1 ≤ k) (sym notices_dropped_is) (one_over (run calls l).store list w)
 
   -- an accepted guest write, by the pages of its first byte and its last
-  module _ (a n v : ℕ) (r : Report) (accepted : (write_call (run calls l).store (run calls l).memory a n v).0 ≡ Reported r) where
+  module _ (a n v : ℕ) (r : Report) (accepted : (write_call (run calls l).store (run calls l).memory a n v).0 ≡ Ok r) where
     pub write_dropped_is : r.dropped ≡ hits_across (run calls l).store a (a + n - 1)
     write_dropped_is = write_drops g h (run calls l).store (stands p l start calls g h is) (run calls l).memory a n v r accepted
 

@@ -13,18 +13,14 @@ use borrow.Author.Tests.{eqb-true, eqb-false}
 use Rattle.bits.specs.Bytes.{le, patch}
 use Rattle.bits.proofs.Bytes.{length-le, length-patch, get_or-before, get_or-behind}
 use Rattle.bits.proofs.Every.{decide}
-use Rattle.answer.specs.declared.Answer.TheVariants.{Done}
 use Rattle.block.specs.Memory.{page_bytes}
 use Rattle.form.proofs.Page.{by_bytes}
 use Rattle.store.specs.Layout.{holds, slot_of, Bounded}
 use Rattle.store.specs.Places.{record_in}
 use Rattle.store.specs.declared.Geometry.{Geometry}
-use Rattle.store.specs.declared.Opened.TheVariants.{Sound}
 use Rattle.store.proofs.Known.{holds_are}
 use Rattle.cache.specs.Answers.{lookup_number}
 use Rattle.cache.specs.Calls.{make_judged, lookup_call}
-use Rattle.cache.specs.declared.Judged.{Judged}
-use Rattle.cache.specs.declared.Judged.TheVariants.{Accepted, Rejected}
 use Rattle.cache.proofs.Checks.{opened-fits}
 use Rattle.write.specs.Write.{write_judged, write_call}
 use Rattle.write.proofs.Granted.{Granted}
@@ -37,6 +33,8 @@ use Rattle.guarantee.specs.Honest.{Former, Local, Fresh, Honest}
 use Rattle.guarantee.proofs.Simulation.{fits-accepted}
 use Rattle.guarantee.proofs.Run.{write_own, kept}
 use Rattle.guarantee.proofs.Guarantee.{hit_shown}
+use Rattle.answer.specs.Answer.{Answer}
+use Rattle.std.specs.Prelude.{Some, Ok, Err}
 
 in_order : (x y : ℕ) → x ≤ y → x / 4096 ≤ y / 4096
 in_order x y h = omega arith
@@ -98,7 +96,7 @@ cross_apart g h x y a r k = go (eqb (page_of x) (page_of y)) refl
 
 module _ (form : Former) where
   abbrev Held : Geometry → List ℕ → Event → Type 0
-  Held g m = OfInserted (λ a r. form g m a ≡ (Done, r))
+  Held g m = OfInserted (λ a r. form g m a ≡ (done, r))
 
   -- events whose insertions held what forms from this memory
   events_fresh : (g : Geometry) (h : List Event) (m : List ℕ) → Fresh form (since g h) m → (new : List Event) → Every (Held g m) new → Fresh form (since g (new ++ h)) m
@@ -106,10 +104,10 @@ module _ (form : Former) where
   events_fresh g h m i [] none_left a r e = i a r e
   events_fresh g h m i (inserted b rec ∷ new) (and_then f l) a r e = go (events_fresh g h m i new l a r) (eqb b a) refl (eqb (slot_of g b) (slot_of g a)) e
     where
-      go : (shown (slot_of g) page_of (new ++ h) a ≡ some r → form g m a ≡ (Done, r)) → (t : Bool) → eqb b a ≡ t → (u : Bool) → cond t (some rec) (cond u none (shown (slot_of g) page_of (new ++ h) a)) ≡ some r → form g m a ≡ (Done, r)
+      go : (shown (slot_of g) page_of (new ++ h) a ≡ some r → form g m a ≡ (done, r)) → (t : Bool) → eqb b a ≡ t → (u : Bool) → cond t (some rec) (cond u none (shown (slot_of g) page_of (new ++ h) a)) ≡ some r → form g m a ≡ (done, r)
       go ih true q u k =
           let same : rec ≡ r = cc in
-          ap (form g m) (sym (eqb-true b a q)) ∙ f ∙ ap (λ (x : List ℕ). (Done, x)) same
+          ap (form g m) (sym (eqb-true b a q)) ∙ f ∙ ap (λ (x : List ℕ). (done, x)) same
       go ih false q true k = no_some r k
       go ih false q false k = ih k
   events_fresh g h m i (touched p ∷ new) (and_then f l) a r e = events_fresh g h m i new l a r (touch_apart g (new ++ h) p a r e).1
@@ -118,7 +116,7 @@ module _ (form : Former) where
   module _ (local : Local form) where
     write_still : (g : Geometry) (h : List Event) (s m : List ℕ) → Stands g h s → (at n v : ℕ) → Fresh form (since g (events (length m) g (write at n v) ++ h)) m → Fresh form (since g (events (length m) g (write at n v) ++ h)) (write_call s m at n v).2
     unfolding events
-    write_still g h s m y at n v i = go (write_judged (Sound g) (length m) at n) refl
+    write_still g h s m y at n v i = go (write_judged (Some g) (length m) at n) refl
       where
         accepted : Granted s (length m) at n g → Fresh form (since g (crossed at (at + n - 1) ++ h)) m → Fresh form (since g (crossed at (at + n - 1) ++ h)) (patch m (at - g.base) (le n v))
         accepted t i a r q =
@@ -128,9 +126,9 @@ module _ (form : Former) where
             sym (local g m (patch m (at - g.base) (le n v)) a (sym (length-patch m (at - g.base) (le n v) (room s m at n v g t b))) (untouched s m at n v g t b a able w.0 w.1))
             ∙ i a r q
 
-        go : (j : Judged) → write_judged (Sound g) (length m) at n ≡ j → Fresh form (since g (events (length m) g (write at n v) ++ h)) (write_call s m at n v).2
-        go (Accepted k) e = let own = write_own g h s y (length m) at n k e in rw (y.sound, own.0) (accepted own.1 (rw own.0 at i))
-        go (Rejected why) e = rw (y.sound, e) (rw e at i)
+        go : (j : Answer Geometry) → write_judged (Some g) (length m) at n ≡ j → Fresh form (since g (events (length m) g (write at n v) ++ h)) (write_call s m at n v).2
+        go (Ok k) e = let own = write_own g h s y (length m) at n k e in rw (y.sound, own.0) (accepted own.1 (rw own.0 at i))
+        go (Err why) e = rw (y.sound, e) (rw e at i)
 
     -- a call leaves the memory that what is shown forms from
     still : (g : Geometry) (h : List Event) (l : Lent) → Stands g h l.store → (c : Use) → Fresh form (since g (events (length l.memory) g c ++ h)) l.memory → Fresh form (since g (events (length l.memory) g c ++ h)) (done c l).1.memory
@@ -150,9 +148,9 @@ module _ (form : Former) where
       fresh [] o = first
       fresh (make reading e base pages ∷ calls) o = go (make_judged reading e base pages (length l.store)) (past_of p calls l) (fresh calls o)
         where
-          go : (j : Judged) (z : Past) → Fresh form z (run calls l).memory → Fresh form (if_accepted j (λ g. since g []) z) (run calls l).memory
-          go (Accepted g) z i = λ a r e. no_some r e
-          go (Rejected why) z i = i
+          go : (j : Answer Geometry) (z : Past) → Fresh form z (run calls l).memory → Fresh form (if_accepted j (λ g. since g []) z) (run calls l).memory
+          go (Ok g) z i = λ a r e. no_some r e
+          go (Err why) z i = i
       fresh (uses c ∷ calls) o = go (past_of p calls l) refl (kept p l start calls).follows (fresh calls o.1)
         where
           go : (z : Past) → past_of p calls l ≡ z → Follows z (run calls l).store → Fresh form z (run calls l).memory → Fresh form (grown (length l.memory) c z) (done c (run calls l)).1.memory
@@ -165,5 +163,5 @@ module _ (form : Former) where
 
       -- where a lookup's number is 0, what forms now is the record that the returned part shows
       pub never_stale : (calls : List Call) → Honest form p calls l → (g : Geometry) (h : List Event) → past_of p calls l ≡ since g h
-          → (a : ℕ) → lookup_number (lookup_call (run calls l).store a) ≡ 0 → form g (run calls l).memory a ≡ (Done, record_in g (looked_up (run calls l) a))
+          → (a : ℕ) → lookup_number (lookup_call (run calls l).store a) ≡ 0 → form g (run calls l).memory a ≡ (done, record_in g (looked_up (run calls l) a))
       never_stale calls o g h is a e = subst (λ (z : Past). Fresh form z (run calls l).memory) is (fresh calls o) a _ (hit_shown p l start calls g h is a e)

@@ -8,18 +8,11 @@ use Prim.Native.Nat.{ℕ, ◌+◌, ◌-◌, ◌%◌, ◌^◌}
 use native.Mathlib.Omega.{arith}
 use lib.ListN.{length}
 use Rattle.bits.proofs.Tests.{not_true}
-use Rattle.answer.specs.declared.Answer.TheVariants.{Done}
-use Rattle.answer.specs.declared.Valued.TheVariants.{Value}
 use Rattle.store.specs.Layout.{slot_of}
 use Rattle.store.specs.Places.{record_in}
 use Rattle.store.specs.declared.Geometry.{Geometry}
-use Rattle.store.specs.declared.Opened.TheVariants.{Sound}
 use Rattle.cache.specs.Answers.{lookup_number, nothing_done, reported}
 use Rattle.cache.specs.Calls.{make_judged, make_by, make_call, lookup_call, insert_judged, insert_by, insert_call, notice_call, flush_call, generation_call}
-use Rattle.cache.specs.declared.ReportAnswer.{ReportAnswer}
-use Rattle.cache.specs.declared.ReportAnswer.TheVariants.{Reported}
-use Rattle.cache.specs.declared.Judged.{Judged}
-use Rattle.cache.specs.declared.Judged.TheVariants.{Accepted, Rejected}
 use Rattle.notices.specs.Notices.{notices_call}
 use Rattle.write.specs.Write.{write_judged, write_call}
 use Rattle.history.specs.History.{Event, insertions, shown, marked, Lives, Marked}
@@ -31,15 +24,18 @@ use Rattle.guarantee.specs.Answers.{lookup_answered, part_for, report, reports, 
 use Rattle.guarantee.proofs.Simulation.{fits-accepted, unmarked_drops, notice-reports, notices-reports, write-reports}
 use Rattle.guarantee.proofs.Lookup.{lookup-is, lookup_returns}
 use Rattle.guarantee.proofs.Run.{write_own, kept}
+use Rattle.answer.specs.Answer.{Answer}
+use Rattle.cache.specs.declared.Report.{Report}
+use Rattle.std.specs.Prelude.{Option, Some, Ok, Err}
 
 -- a write in a store that stands for a past
-pub write-is : (g : Geometry) (h : List Event) (s : List ℕ) → Stands g h s → (m : List ℕ) (a n v : ℕ) → (write_call s m a n v).0 ≡ write_answered (write_judged (Sound g) (length m) a n) (reports g h (events (length m) g (write a n v)))
+pub write-is : (g : Geometry) (h : List Event) (s : List ℕ) → Stands g h s → (m : List ℕ) (a n v : ℕ) → (write_call s m a n v).0 ≡ write_answered (write_judged (Some g) (length m) a n) (reports g h (events (length m) g (write a n v)))
 unfolding events
-write-is g h s y m a n v = go (write_judged (Sound g) (length m) a n) refl
+write-is g h s y m a n v = go (write_judged (Some g) (length m) a n) refl
   where
-    go : (j : Judged) → write_judged (Sound g) (length m) a n ≡ j → (write_call s m a n v).0 ≡ write_answered (write_judged (Sound g) (length m) a n) (reports g h (events (length m) g (write a n v)))
-    go (Accepted k) e = let own = write_own g h s y (length m) a n k e in rw (y.sound, own.0) (ap Reported (write-reports g h s y a (a + n - 1)))
-    go (Rejected why) e = rw (y.sound, e)
+    go : (j : Answer Geometry) → write_judged (Some g) (length m) a n ≡ j → (write_call s m a n v).0 ≡ write_answered (write_judged (Some g) (length m) a n) (reports g h (events (length m) g (write a n v)))
+    go (Ok k) e = let own = write_own g h s y (length m) a n k e in rw (y.sound, own.0) (ap Ok (write-reports g h s y a (a + n - 1)))
+    go (Err why) e = rw (y.sound, e)
 
 module _ (p : Past) (l : Lent) (start : Follows p l.store) (calls : List Call) (g : Geometry) (h : List Event) (is : past_of p calls l ≡ since g h) where
   -- the store stands for the past that the calls tell
@@ -78,39 +74,39 @@ module _ (p : Past) (l : Lent) (start : Follows p l.store) (calls : List Call) (
   pub make_answers : (reading e base pages : ℕ) → (make_call reading e base pages (run calls l).store).0 ≡ answered (make_judged reading e base pages (length l.store))
   make_answers reading e base pages = go (make_judged reading e base pages (length (run calls l).store)) ∙ ap (λ (n : ℕ). answered (make_judged reading e base pages n)) (kept p l start calls).stored
     where
-      go : (j : Judged) → (make_by j (run calls l).store).0 ≡ answered j
-      go (Accepted k) = refl
-      go (Rejected why) = refl
+      go : (j : Answer Geometry) → (make_by j (run calls l).store).0 ≡ answered j
+      go (Ok k) = refl
+      go (Err why) = refl
 
-  pub insert_answers : (a : ℕ) (rec : List ℕ) → (insert_call (run calls l).store a rec).0 ≡ answered (insert_judged (Sound g) a rec)
-  insert_answers a rec = rw stands.sound (go (insert_judged (Sound g) a rec))
+  pub insert_answers : (a : ℕ) (rec : List ℕ) → (insert_call (run calls l).store a rec).0 ≡ answered (insert_judged (Some g) a rec)
+  insert_answers a rec = rw stands.sound (go (insert_judged (Some g) a rec))
     where
-      go : (j : Judged) → (insert_by j (run calls l).store a rec).0 ≡ answered j
-      go (Accepted k) = refl
-      go (Rejected why) = refl
+      go : (j : Answer Geometry) → (insert_by j (run calls l).store a rec).0 ≡ answered j
+      go (Ok k) = refl
+      go (Err why) = refl
 
-  pub notice_answers : (a : ℕ) → (notice_call (run calls l).store a).0 ≡ Reported (report g h (page_of a))
-  notice_answers a = rw stands.sound (ap Reported (notice-reports g h (run calls l).store stands a))
+  pub notice_answers : (a : ℕ) → (notice_call (run calls l).store a).0 ≡ Ok (report g h (page_of a))
+  notice_answers a = rw stands.sound (ap Ok (notice-reports g h (run calls l).store stands a))
 
-  pub notices_answers : (list : List ℕ) → (notices_call (run calls l).store list).0 ≡ Reported (reports g h (touches list))
-  notices_answers list = rw stands.sound (ap Reported (notices-reports g h (run calls l).store stands list))
+  pub notices_answers : (list : List ℕ) → (notices_call (run calls l).store list).0 ≡ Ok (reports g h (touches list))
+  notices_answers list = rw stands.sound (ap Ok (notices-reports g h (run calls l).store stands list))
 
   -- in one sentence (docs/FORMATS.md, Slots examined): every slot exactly when the page had an accepted insertion, and since came no notice or write in it, and no flush
   pub examines_all : (a : ℕ) → Marked (slot_of g) page_of h (page_of a) → (reported (notice_call (run calls l).store a).0).examined ≡ 2 ^ g.e
-  examines_all a m = ap (λ (r : ReportAnswer). (reported r).examined) (notice_answers a) ∙ rw (is-marked (slot_of g) page_of h (page_of a) m)
+  examines_all a m = ap (λ (r : Answer Report). (reported r).examined) (notice_answers a) ∙ rw (is-marked (slot_of g) page_of h (page_of a) m)
 
-  pub examines_none : (a : ℕ) → (Marked (slot_of g) page_of h (page_of a) → ⊥) → (notice_call (run calls l).store a).0 ≡ Reported nothing_done
+  pub examines_none : (a : ℕ) → (Marked (slot_of g) page_of h (page_of a) → ⊥) → (notice_call (run calls l).store a).0 ≡ Ok nothing_done
   examines_none a n =
       let m = not_true (marked (slot_of g) page_of h (page_of a)) (λ e. n (marked-is (slot_of g) page_of h (page_of a) e)) in
       notice_answers a ∙ rw (m, unmarked_drops g h (run calls l).store stands a m)
 
-  pub flush_answers : (flush_call (run calls l).store).0 ≡ Done
+  pub flush_answers : (flush_call (run calls l).store).0 ≡ done
   flush_answers = rw stands.sound
 
-  pub generation_answers : generation_call (run calls l).store ≡ Value ((insertions h + 1) % 2 ^ 64)
-  generation_answers = rw stands.sound (ap Value stands.age)
+  pub generation_answers : generation_call (run calls l).store ≡ Ok ((insertions h + 1) % 2 ^ 64)
+  generation_answers = rw stands.sound (ap Ok stands.age)
 
-  pub write_answers : (a n v : ℕ) → (write_call (run calls l).store (run calls l).memory a n v).0 ≡ write_answered (write_judged (Sound g) (length l.memory) a n) (reports g h (events (length l.memory) g (write a n v)))
+  pub write_answers : (a n v : ℕ) → (write_call (run calls l).store (run calls l).memory a n v).0 ≡ write_answered (write_judged (Some g) (length l.memory) a n) (reports g h (events (length l.memory) g (write a n v)))
   write_answers a n v =
       write-is g h (run calls l).store stands (run calls l).memory a n v
-      ∙ ap (λ (z : ℕ). write_answered (write_judged (Sound g) z a n) (reports g h (events z g (write a n v)))) (kept p l start calls).roomy
+      ∙ ap (λ (z : ℕ). write_answered (write_judged (Some g) z a n) (reports g h (events z g (write a n v)))) (kept p l start calls).roomy

@@ -12,14 +12,10 @@ use Rattle.bits.specs.Bytes.{le, patch}
 use Rattle.bits.proofs.Bytes.{length-le, length-patch}
 use Rattle.store.specs.Layout.{header, in_bounds, store_len, geometry, opened, Fitting}
 use Rattle.store.specs.declared.Geometry.{Geometry}
-use Rattle.store.specs.declared.Opened.{Opened}
-use Rattle.store.specs.declared.Opened.TheVariants.{Sound}
 use Rattle.store.proofs.Known.{bounds_are}
 use Rattle.store.proofs.Held.{place_long}
 use Rattle.store.proofs.View.{fitting_blank, fitting_flushed, header_long}
 use Rattle.cache.specs.Calls.{make_call, insert_judged, inserted_in, insert_by, insert_call, noticed_in, notice_by, notice_call, flush_by, flush_call}
-use Rattle.cache.specs.declared.Judged.{Judged}
-use Rattle.cache.specs.declared.Judged.TheVariants.{Accepted, Rejected}
 use Rattle.cache.proofs.Checks.{opened-fits, Taken, insert_taken}
 use Rattle.cache.proofs.View.{fitting_inserted, fitting_noticed}
 use Rattle.cache.proofs.Order.{on_any_bytes}
@@ -32,6 +28,8 @@ use Rattle.guarantee.specs.Calls.{Use, lookup, insert, notice, notices, flush, g
 use Rattle.guarantee.specs.Past.{Past, unmade, since, page_of, events, grown, past, past_of}
 use Rattle.guarantee.specs.Stands.{Stands, Follows}
 use Rattle.guarantee.proofs.Simulation.{make_keeps, flush_keeps, insert_keeps, notice_keeps, notices_keeps, write_keeps}
+use Rattle.answer.specs.Answer.{Answer}
+use Rattle.std.specs.Prelude.{Option, Some, Ok, Err}
 
 -- no call changes the length of a buffer
 length-insert : (s : List ℕ) (a : ℕ) (rec : List ℕ) → length (insert_call s a rec).1 ≡ length s
@@ -40,9 +38,9 @@ length-insert s a rec = go (insert_judged (opened s) a rec) refl
     accepted : (g : Geometry) → Taken s a rec g → length (inserted_in g s a rec) ≡ length s
     accepted g t = let f = opened-fits s g t.sound in (fitting_inserted g s f a t.inner rec (place_long g rec s t.sound t.whole)).exact ∙ sym f.exact
 
-    go : (j : Judged) → insert_judged (opened s) a rec ≡ j → length (insert_by j s a rec).1 ≡ length s
-    go (Accepted g) e = accepted g (insert_taken s a rec g e)
-    go (Rejected why) e = refl
+    go : (j : Answer Geometry) → insert_judged (opened s) a rec ≡ j → length (insert_by j s a rec).1 ≡ length s
+    go (Ok g) e = accepted g (insert_taken s a rec g e)
+    go (Err why) e = refl
 
 fitting_touched : (g : Geometry) (s : List ℕ) (a b : ℕ) → Fitting g s → Fitting g (noticed_pages g s a b)
 fitting_touched g s a b f = go (eqb (page_of a) (page_of b)) refl
@@ -64,9 +62,9 @@ module _ (s m : List ℕ) (a n v : ℕ) where
   length-write : length (write_call s m a n v).1 ≡ length s
   length-write = go (write_judged (opened s) (length m) a n) refl
     where
-      go : (j : Judged) → write_judged (opened s) (length m) a n ≡ j → length (write_by j s m a n v).1 ≡ length s
-      go (Accepted g) e = let f = opened-fits s g (write_granted s (length m) a n g e).sound in (fitting_touched g s a (a + n - 1) f).exact ∙ sym f.exact
-      go (Rejected why) e = refl
+      go : (j : Answer Geometry) → write_judged (opened s) (length m) a n ≡ j → length (write_by j s m a n v).1 ≡ length s
+      go (Ok g) e = let f = opened-fits s g (write_granted s (length m) a n g e).sound in (fitting_touched g s a (a + n - 1) f).exact ∙ sym f.exact
+      go (Err why) e = refl
 
   length-memory : length (write_call s m a n v).2 ≡ length m
   length-memory = go (write_judged (opened s) (length m) a n) refl
@@ -74,9 +72,9 @@ module _ (s m : List ℕ) (a n v : ℕ) where
       accepted : (g : Geometry) → Granted s (length m) a n g → length (patch m (a - g.base) (le n v)) ≡ length m
       accepted g t = length-patch m (a - g.base) (le n v) (omega (arith, length-le n v, t.low, t.high, t.whole))
 
-      go : (j : Judged) → write_judged (opened s) (length m) a n ≡ j → length (write_by j s m a n v).2 ≡ length m
-      go (Accepted g) e = accepted g (write_granted s (length m) a n g e)
-      go (Rejected why) e = refl
+      go : (j : Answer Geometry) → write_judged (opened s) (length m) a n ≡ j → length (write_by j s m a n v).2 ≡ length m
+      go (Ok g) e = accepted g (write_granted s (length m) a n g e)
+      go (Err why) e = refl
 
 length-store : (c : Use) (l : Lent) → length (done c l).1.store ≡ length l.store
 unfolding done
@@ -98,37 +96,37 @@ length-room flush l = refl
 length-room generation l = refl
 length-room (write a n v) l = length-memory l.store l.memory a n v
 
-sound_same : (k g : Geometry) → Sound k ≡ Sound g → k ≡ g
+sound_same : (k g : Geometry) → Some k ≡ Some g → k ≡ g
 sound_same k g e = cc
 
 -- each call keeps a store that stands for a past
 module _ (g : Geometry) (h : List Event) (s : List ℕ) (y : Stands g h s) where
   -- what the store's judges accept is its own geometry
-  insert_own : (a : ℕ) (rec : List ℕ) (k : Geometry) → insert_judged (Sound g) a rec ≡ Accepted k → insert_judged (Sound g) a rec ≡ Accepted g
-  insert_own a rec k e = e ∙ ap Accepted (sound_same k g (sym (insert_taken s a rec k (ap (λ (o : Opened). insert_judged o a rec) y.sound ∙ e)).sound ∙ y.sound))
+  insert_own : (a : ℕ) (rec : List ℕ) (k : Geometry) → insert_judged (Some g) a rec ≡ Ok k → insert_judged (Some g) a rec ≡ Ok g
+  insert_own a rec k e = e ∙ ap Ok (sound_same k g (sym (insert_taken s a rec k (ap (λ (o : Option Geometry). insert_judged o a rec) y.sound ∙ e)).sound ∙ y.sound))
 
-  pub write_own : (m_len a n : ℕ) (k : Geometry) → write_judged (Sound g) m_len a n ≡ Accepted k → (write_judged (Sound g) m_len a n ≡ Accepted g) × Granted s m_len a n g
+  pub write_own : (m_len a n : ℕ) (k : Geometry) → write_judged (Some g) m_len a n ≡ Ok k → (write_judged (Some g) m_len a n ≡ Ok g) × Granted s m_len a n g
   write_own m_len a n k e =
-      let t = write_granted s m_len a n k (ap (λ (o : Opened). write_judged o m_len a n) y.sound ∙ e) in
+      let t = write_granted s m_len a n k (ap (λ (o : Option Geometry). write_judged o m_len a n) y.sound ∙ e) in
       let same = sound_same k g (sym t.sound ∙ y.sound) in
-      (e ∙ ap Accepted same, subst (Granted s m_len a n) same t)
+      (e ∙ ap Ok same, subst (Granted s m_len a n) same t)
 
   module _ (m : List ℕ) where
     insert_follows : (a : ℕ) (rec : List ℕ) → Stands g (events (length m) g (insert a rec) ++ h) (insert_call s a rec).1
     unfolding events
-    insert_follows a rec = go (insert_judged (Sound g) a rec) refl
+    insert_follows a rec = go (insert_judged (Some g) a rec) refl
       where
-        go : (j : Judged) → insert_judged (Sound g) a rec ≡ j → Stands g (events (length m) g (insert a rec) ++ h) (insert_call s a rec).1
-        go (Accepted k) e = let own = insert_own a rec k e in rw (y.sound, own) (insert_keeps g h s y a rec own)
-        go (Rejected why) e = rw (y.sound, e) y
+        go : (j : Answer Geometry) → insert_judged (Some g) a rec ≡ j → Stands g (events (length m) g (insert a rec) ++ h) (insert_call s a rec).1
+        go (Ok k) e = let own = insert_own a rec k e in rw (y.sound, own) (insert_keeps g h s y a rec own)
+        go (Err why) e = rw (y.sound, e) y
 
     write_follows : (a n v : ℕ) → Stands g (events (length m) g (write a n v) ++ h) (write_call s m a n v).1
     unfolding events
-    write_follows a n v = go (write_judged (Sound g) (length m) a n) refl
+    write_follows a n v = go (write_judged (Some g) (length m) a n) refl
       where
-        go : (j : Judged) → write_judged (Sound g) (length m) a n ≡ j → Stands g (events (length m) g (write a n v) ++ h) (write_call s m a n v).1
-        go (Accepted k) e = let own = write_own (length m) a n k e in rw (y.sound, own.0) (write_keeps g h s y a (a + n - 1))
-        go (Rejected why) e = rw (y.sound, e) y
+        go : (j : Answer Geometry) → write_judged (Some g) (length m) a n ≡ j → Stands g (events (length m) g (write a n v) ++ h) (write_call s m a n v).1
+        go (Ok k) e = let own = write_own (length m) a n k e in rw (y.sound, own.0) (write_keeps g h s y a (a + n - 1))
+        go (Err why) e = rw (y.sound, e) y
 
 keeps : (g : Geometry) (h : List Event) (l : Lent) → Stands g h l.store → (c : Use) → Stands g (events (length l.memory) g c ++ h) (done c l).1.store
 unfolding events done

@@ -17,14 +17,11 @@ use Rattle.bits.proofs.Tests.{and_both, true_false}
 use Rattle.store.specs.Layout.{header, in_bounds, geometry, opened, holds, slot_of, generation_of, Bounded, Fitting}
 use Rattle.store.specs.Places.{place_in, page_bit, empty_place, place_for, record_in, in_page, emptied, blank}
 use Rattle.store.specs.declared.Geometry.{Geometry}
-use Rattle.store.specs.declared.Opened.{Opened}
-use Rattle.store.specs.declared.Opened.TheVariants.{Sound}
 use Rattle.store.proofs.Known.{holds_are, are_held, page-lt, slot_lt}
 use Rattle.store.proofs.Held.{place_long, place_named, record_back}
 use Rattle.store.proofs.Places.{length_empty, empty_address}
 use Rattle.store.proofs.View.{opened-flushed, generation-flushed, bits-flushed, place_flushed, opened_made, generation_made, bits_made, place_made}
 use Rattle.cache.specs.Calls.{insert_judged, watched, evicted, noticed_in, dropped_in, report_in, summed, inserted_in}
-use Rattle.cache.specs.declared.Judged.TheVariants.{Accepted}
 use Rattle.cache.proofs.Checks.{opened-fits, insert_taken}
 use Rattle.cache.proofs.Reports.{same_report, summed-none, none-summed, summed_assoc}
 use Rattle.cache.proofs.View.{opened-evicted, generation-evicted, bits-evicted, place_evicted, opened-inserted, generation-inserted, bits-inserted, place_inserted, report_apart}
@@ -37,6 +34,7 @@ use Rattle.history.proofs.Dropped.{place_in_page, places_hits, unmarked_none}
 use Rattle.guarantee.specs.Past.{page_of, crossed, touches}
 use Rattle.guarantee.specs.Stands.{Possible, Stands}
 use Rattle.guarantee.specs.Answers.{live, report, reports}
+use Rattle.std.specs.Prelude.{Option, Some, Ok}
 
 -- an accepted insertion: its address lies in memory, and what the place holds for the record is as long as a place, names the address and shows the record
 pub record Fits (g : Geometry) (a : ℕ) (r : List ℕ) : Type 0 where
@@ -45,9 +43,9 @@ pub record Fits (g : Geometry) (a : ℕ) (r : List ℕ) : Type 0 where
   pub named : doubleword_at (place_for g r) 0 ≡ a
   pub back : record_in g (place_for g r) ≡ r
 
-pub fits-accepted : (g : Geometry) (s : List ℕ) → opened s ≡ Sound g → (a : ℕ) (r : List ℕ) → insert_judged (Sound g) a r ≡ Accepted g → Fits g a r
+pub fits-accepted : (g : Geometry) (s : List ℕ) → opened s ≡ Some g → (a : ℕ) (r : List ℕ) → insert_judged (Some g) a r ≡ Ok g → Fits g a r
 fits-accepted g s o a r e =
-    let t = insert_taken s a r g (ap (λ (z : Opened). insert_judged z a r) o ∙ e) in
+    let t = insert_taken s a r g (ap (λ (z : Option Geometry). insert_judged z a r) o ∙ e) in
     record { able = t.inner; long = place_long g r s o t.whole; named = place_named g r a t.formed; back = record_back g r a t.formed }
 
 -- the bytes of a place
@@ -64,7 +62,7 @@ module _ (g : Geometry) (h : List Event) (s : List ℕ) where
       go empty e = y.vacant i c (λ a q. empty_none (slot_of g) page_of h i a e q)
       go (full a r) e = let w = full_shown (slot_of g) page_of h i a r e in subst (λ (j : ℕ). place_in g s j ≡ place_for g r) w.0 (y.full a r w.1)
 
-  pub standing : opened s ≡ Sound g → generation_of s ≡ (insertions h + 1) % 2 ^ 64 → ((i : ℕ) → i < 2 ^ g.e → place_in g s i ≡ bytes_of g (places (slot_of g) page_of h i)) → ((q : ℕ) → q < g.pages → page_bit s q ≡ marked (slot_of g) page_of h (page_of g.base + q)) → Every (Possible g) h → Stands g h s
+  pub standing : opened s ≡ Some g → generation_of s ≡ (insertions h + 1) % 2 ^ 64 → ((i : ℕ) → i < 2 ^ g.e → place_in g s i ≡ bytes_of g (places (slot_of g) page_of h i)) → ((q : ℕ) → q < g.pages → page_bit s q ≡ marked (slot_of g) page_of h (page_of g.base + q)) → Every (Possible g) h → Stands g h s
   standing o age place bits accepted = record {
     sound = o;
     age = age;
@@ -136,7 +134,7 @@ module _ (g : Geometry) (h : List Event) (s : List ℕ) (y : Stands g h s) where
       (λ q c. bits-flushed g s fits q c)
       (and_then tt y.accepted)
 
-  pub insert_keeps : (a : ℕ) (r : List ℕ) → insert_judged (Sound g) a r ≡ Accepted g → Stands g (inserted a r ∷ h) (inserted_in g s a r)
+  pub insert_keeps : (a : ℕ) (r : List ℕ) → insert_judged (Some g) a r ≡ Ok g → Stands g (inserted a r ∷ h) (inserted_in g s a r)
   unfolding marked places insertions
   insert_keeps a r e =
       let f = fits-accepted g s y.sound a r e in

@@ -6,12 +6,9 @@ use Prim.Native.Nat.{ℕ, ◌*◌, ◌^◌, ◌≤◌}
 use lib.ListN.{length}
 use Rattle.store.specs.Layout.{slot_of}
 use Rattle.store.specs.declared.Geometry.{Geometry}
-use Rattle.store.specs.declared.Opened.TheVariants.{Sound}
 use Rattle.store.proofs.Known.{slot_lt}
 use Rattle.cache.specs.Answers.{nothing_done, reported}
 use Rattle.cache.specs.Calls.{make_judged, insert_judged, summed}
-use Rattle.cache.specs.declared.Judged.{Judged}
-use Rattle.cache.specs.declared.Judged.TheVariants.{Accepted, Rejected}
 use Rattle.cache.specs.declared.Report.{Report}
 use Rattle.cache.proofs.Reports.{summed-none, summed_assoc, summed_comm}
 use Rattle.write.specs.Write.{write_judged}
@@ -25,6 +22,8 @@ use Rattle.guarantee.specs.Answers.{report, reports, write_answered, reported_by
 use Rattle.guarantee.proofs.Simulation.{first_of, in_page_lem, its_page, touch_reports, notices-reports}
 use Rattle.guarantee.proofs.Run.{kept}
 use Rattle.guarantee.proofs.Guarantee.{write-is}
+use Rattle.answer.specs.Answer.{Answer}
+use Rattle.std.specs.Prelude.{Some, Ok, Err}
 
 -- of two reports on top of a third, either may come first
 pub turned : (x y z : Report) → summed (summed x y) z ≡ summed y (summed x z)
@@ -42,20 +41,20 @@ added g h (flushed ∷ new) = added g h new
 call_reports : (g : Geometry) (h : List Event) (l : Lent) → Stands g h l.store → (c : Use) → (done c l).0 ≡ reports g h (events (length l.memory) g c)
 unfolding done events reports
 call_reports g h l y (lookup a) = refl
-call_reports g h l y (insert a rec) = go (insert_judged (Sound g) a rec) refl
+call_reports g h l y (insert a rec) = go (insert_judged (Some g) a rec) refl
   where
-    go : (j : Judged) → insert_judged (Sound g) a rec ≡ j → nothing_done ≡ reports g h (events (length l.memory) g (insert a rec))
-    go (Accepted k) e = rw e
-    go (Rejected why) e = rw e
+    go : (j : Answer Geometry) → insert_judged (Some g) a rec ≡ j → nothing_done ≡ reports g h (events (length l.memory) g (insert a rec))
+    go (Ok k) e = rw e
+    go (Err why) e = rw e
 call_reports g h l y (notice a) = rw y.sound (touch_reports g h l.store y a)
 call_reports g h l y (notices list) = rw y.sound (notices-reports g h l.store y list)
 call_reports g h l y flush = refl
 call_reports g h l y generation = refl
-call_reports g h l y (write a n v) = ap reported (write-is g h l.store y l.memory a n v) ∙ go (write_judged (Sound g) (length l.memory) a n) refl
+call_reports g h l y (write a n v) = ap reported (write-is g h l.store y l.memory a n v) ∙ go (write_judged (Some g) (length l.memory) a n) refl
   where
-    go : (j : Judged) → write_judged (Sound g) (length l.memory) a n ≡ j → reported (write_answered (write_judged (Sound g) (length l.memory) a n) (reports g h (events (length l.memory) g (write a n v)))) ≡ reports g h (events (length l.memory) g (write a n v))
-    go (Accepted k) e = rw e
-    go (Rejected why) e = rw e
+    go : (j : Answer Geometry) → write_judged (Some g) (length l.memory) a n ≡ j → reported (write_answered (write_judged (Some g) (length l.memory) a n) (reports g h (events (length l.memory) g (write a n v)))) ≡ reports g h (events (length l.memory) g (write a n v))
+    go (Ok k) e = rw e
+    go (Err why) e = rw e
 
 abbrev Paid : Past → Report → Type 0
 Paid unmade r = Unit {0}
@@ -71,9 +70,9 @@ module _ (p : Past) (l : Lent) (start : Follows p l.store) where
       go (since g h) = refl
   paid (make reading e base pages ∷ calls) = go (make_judged reading e base pages (length l.store)) (past_of p calls l) (paid calls)
     where
-      go : (j : Judged) (z : Past) → Paid z (spent p calls l) → Paid (if_accepted j (λ g. since g []) z) (if_accepted j (λ g. nothing_done) (spent p calls l))
-      go (Accepted g) z i = refl
-      go (Rejected why) z i = i
+      go : (j : Answer Geometry) (z : Past) → Paid z (spent p calls l) → Paid (if_accepted j (λ g. since g []) z) (if_accepted j (λ g. nothing_done) (spent p calls l))
+      go (Ok g) z i = refl
+      go (Err why) z i = i
   paid (uses c ∷ calls) = go (past_of p calls l) (kept p l start calls).follows (paid calls)
     where
       go : (z : Past) → Follows z (run calls l).store → Paid z (spent p calls l) → Paid (grown (length l.memory) c z) (summed (done c (run calls l)).0 (spent p calls l))

@@ -1,30 +1,24 @@
 -- What the calls answer, by a store's past alone.
 -- Assumes nothing.
-use Rattle.std.specs.Prelude.{ℕ, ◌*◌, ◌^◌, List, [], ◌∷◌, ◌++◌, length}
+use Rattle.std.specs.Prelude.{ℕ, ◌*◌, ◌^◌, List, [], ◌∷◌, ◌++◌, length, Ok, Err}
 use Rattle.std.proofs.Math.Option.{Option, none, some}
 use Rattle.answer.specs.declared.Refusal.TheVariants.{NothingFound}
-use Rattle.answer.specs.declared.Answer.{Answer}
-use Rattle.answer.specs.declared.Answer.TheVariants.{Done, Refused}
 use Rattle.store.specs.Layout.{slot_of}
 use Rattle.store.specs.Places.{place_for}
 use Rattle.store.specs.declared.Geometry.{Geometry}
 use Rattle.cache.specs.Answers.{nothing_done}
 use Rattle.cache.specs.Calls.{make_judged, place_of, summed}
-use Rattle.cache.specs.declared.LookupAnswer.{LookupAnswer}
-use Rattle.cache.specs.declared.LookupAnswer.TheVariants.{Hit, LookupRefused}
-use Rattle.cache.specs.declared.Judged.{Judged}
-use Rattle.cache.specs.declared.Judged.TheVariants.{Accepted, Rejected}
 use Rattle.cache.specs.declared.Report.{Report}
-use Rattle.cache.specs.declared.ReportAnswer.{ReportAnswer}
-use Rattle.cache.specs.declared.ReportAnswer.TheVariants.{Reported, NotReported}
 use Rattle.history.specs.History.{Event, inserted, touched, flushed, examined, hits_from, total}
 use Rattle.guarantee.specs.Calls.{Call, make, uses, Lent, done, run}
 use Rattle.guarantee.specs.Past.{Past, unmade, since, page_of, if_accepted}
+use Rattle.answer.specs.Answer.{Answer}
+use Rattle.cache.specs.declared.Hit.{Hit}
 
 -- a lookup, by the record that the past shows: its slot's place, or nothing found
-abbrev pub lookup_answered : Geometry → ℕ → Option (List ℕ) → LookupAnswer
-lookup_answered g a (some r) = Hit (place_of g a) g.stride
-lookup_answered g a none = LookupRefused NothingFound
+abbrev pub lookup_answered : Geometry → ℕ → Option (List ℕ) → Answer Hit
+lookup_answered g a (some r) = Ok (record { at = place_of g a; len = g.stride })
+lookup_answered g a none = Err NothingFound
 
 -- and the part of the store that it returns
 abbrev pub part_for : Geometry → Option (List ℕ) → List ℕ
@@ -47,14 +41,14 @@ reports g h (touched p ∷ new) = summed (reports g h new) (report g (new ++ h) 
 reports g h (flushed ∷ new) = reports g h new
 
 -- Make and insertions, by what their judge says
-abbrev pub answered : Judged → Answer
-answered (Accepted g) = Done
-answered (Rejected why) = Refused why
+abbrev pub answered : Answer Geometry → Answer (Unit {0})
+answered (Ok g) = Ok tt
+answered (Err why) = Err why
 
 -- and a guest write
-abbrev pub write_answered : Judged → Report → ReportAnswer
-write_answered (Accepted g) r = Reported r
-write_answered (Rejected why) r = NotReported why
+abbrev pub write_answered : Answer Geometry → Report → Answer Report
+write_answered (Ok g) r = Ok r
+write_answered (Err why) r = Err why
 
 -- what a past's calls have reported together
 abbrev pub reported_by : Past → Report

@@ -4,9 +4,9 @@ use Rattle.std.specs.Prelude.{ℕ, List, [], ◌∷◌, ◌++◌}
 use Rattle.cache.specs.Answers.{lookup_part, nothing_done, reported}
 use Rattle.cache.specs.Calls.{make_call, lookup_call, insert_call, notice_call, flush_call}
 use Rattle.cache.specs.declared.Report.{Report}
-use Rattle.cache.specs.declared.ReportAnswer.{ReportAnswer}
 use Rattle.notices.specs.Notices.{notices_call}
 use Rattle.write.specs.Write.{write_call}
+use Rattle.answer.specs.Answer.{Answer}
 
 -- the calls that use a store
 pub data Use : Type 0 where
@@ -37,7 +37,7 @@ pub record Lent : Type 0 where
 abbrev pub storing : Lent → List ℕ → Lent
 storing l s = record { store = s; memory = l.memory }
 
-abbrev pub wrote : ReportAnswer × List ℕ × List ℕ → Report × Lent
+abbrev pub wrote : Answer Report × List ℕ × List ℕ → Report × Lent
 wrote r = (reported r.0, record { store = r.1; memory = r.2 })
 
 -- what a call reports, and both buffers after it

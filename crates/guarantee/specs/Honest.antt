@@ -2,8 +2,6 @@
 -- Assumes nothing.
 use Rattle.std.specs.Prelude.{ℕ, ◌≡◌, List, [], ◌∷◌, length}
 use Rattle.std.proofs.Math.Option.{some}
-use Rattle.answer.specs.declared.Answer.{Answer}
-use Rattle.answer.specs.declared.Answer.TheVariants.{Done}
 use Rattle.block.specs.Memory.{page_bytes}
 use Rattle.form.specs.Call.{form_call}
 use Rattle.store.specs.Layout.{slot_of}
@@ -11,10 +9,11 @@ use Rattle.store.specs.declared.Geometry.{Geometry}
 use Rattle.history.specs.History.{Event, Every, OfInserted, shown}
 use Rattle.guarantee.specs.Calls.{Call, make, uses, Lent, run}
 use Rattle.guarantee.specs.Past.{Past, unmade, since, page_of, events, past_of}
+use Rattle.answer.specs.Answer.{Answer}
 
 -- forming, for a store's geometry: from a memory and an address an answer and a record
 abbrev pub Former : Type 0
-Former = Geometry → List ℕ → ℕ → Answer × List ℕ
+Former = Geometry → List ℕ → ℕ → Answer (Unit {0}) × List ℕ
 
 -- it reads only the page of the address
 abbrev pub Local : Former → Type 0
@@ -28,12 +27,12 @@ module _ (form : Former) where
   -- what a past shows is what forms from this memory
   abbrev pub Fresh : Past → List ℕ → Type 0
   Fresh unmade m = Unit {0}
-  Fresh (since g h) m = (a : ℕ) (r : List ℕ) → shown (slot_of g) page_of h a ≡ some r → form g m a ≡ (Done, r)
+  Fresh (since g h) m = (a : ℕ) (r : List ℕ) → shown (slot_of g) page_of h a ≡ some r → form g m a ≡ (done, r)
 
   -- each accepted insertion of a list of calls held what formed from the memory that the calls before it left
   unfoldable pub Honest : Past → List Call → Lent → Type 0
   Honest p [] l = Unit {0}
   Honest p (make reading e base pages ∷ calls) l = Honest p calls l
   Honest p (uses c ∷ calls) l =
-      ((g : Geometry) (h : List Event) → past_of p calls l ≡ since g h → Every (OfInserted (λ a r. form g (run calls l).memory a ≡ (Done, r))) (events (length l.memory) g c))
+      ((g : Geometry) (h : List Event) → past_of p calls l ≡ since g h → Every (OfInserted (λ a r. form g (run calls l).memory a ≡ (done, r))) (events (length l.memory) g c))
       × Honest p calls l

@@ -1,14 +1,12 @@
 -- What a list of calls tells of a store's past, from the calls alone and the lengths of the two buffers: whether a call is accepted needs no byte of them.
 -- Assumes nothing.
-use Rattle.std.specs.Prelude.{ℕ, ◌+◌, ◌-◌, ◌/◌, cond, List, [], ◌∷◌, ◌++◌, eqb, length}
+use Rattle.std.specs.Prelude.{ℕ, ◌+◌, ◌-◌, ◌/◌, cond, List, [], ◌∷◌, ◌++◌, eqb, length, Some, Ok, Err}
 use Rattle.store.specs.declared.Geometry.{Geometry}
-use Rattle.store.specs.declared.Opened.TheVariants.{Sound}
 use Rattle.cache.specs.Calls.{make_judged, insert_judged}
-use Rattle.cache.specs.declared.Judged.{Judged}
-use Rattle.cache.specs.declared.Judged.TheVariants.{Accepted, Rejected}
 use Rattle.write.specs.Write.{write_judged}
 use Rattle.history.specs.History.{Event, inserted, touched, flushed}
 use Rattle.guarantee.specs.Calls.{Use, lookup, insert, notice, notices, flush, generation, write, Call, make, uses, Lent}
+use Rattle.answer.specs.Answer.{Answer}
 
 -- nothing before a store is made; from then on its geometry, and the events since, the newest first
 pub data Past : Type 0 where
@@ -20,9 +18,9 @@ abbrev pub page_of : ℕ → ℕ
 page_of a = a / 4096
 
 -- x of what is accepted, else y
-abbrev pub if_accepted : {A : Type 0} → Judged → (Geometry → A) → A → A
-if_accepted (Accepted g) x y = x g
-if_accepted (Rejected why) x y = y
+abbrev pub if_accepted : {A : Type 0} → Answer Geometry → (Geometry → A) → A → A
+if_accepted (Ok g) x y = x g
+if_accepted (Err why) x y = y
 
 -- a write from a to b touches one page or two
 abbrev pub crossed : ℕ → ℕ → List Event
@@ -36,12 +34,12 @@ touches (a ∷ rest) = touches rest ++ touched (page_of a) ∷ []
 -- the events of a call, the newest first, on a store of this geometry and a memory of `m_len` bytes; a refusal is none
 unfoldable pub events : ℕ → Geometry → Use → List Event
 events m_len g (lookup a) = []
-events m_len g (insert a rec) = if_accepted (insert_judged (Sound g) a rec) (λ k. inserted a rec ∷ []) []
+events m_len g (insert a rec) = if_accepted (insert_judged (Some g) a rec) (λ k. inserted a rec ∷ []) []
 events m_len g (notice a) = touched (page_of a) ∷ []
 events m_len g (notices list) = touches list
 events m_len g flush = flushed ∷ []
 events m_len g generation = []
-events m_len g (write a n v) = if_accepted (write_judged (Sound g) m_len a n) (λ k. crossed a (a + n - 1)) []
+events m_len g (write a n v) = if_accepted (write_judged (Some g) m_len a n) (λ k. crossed a (a + n - 1)) []
 
 -- what a call adds to a past
 abbrev pub grown : ℕ → Use → Past → Past

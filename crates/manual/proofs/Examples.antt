@@ -8,9 +8,9 @@ use Rattle.op.specs.declared.AluKind.TheVariants.{Sub, Slt, Sraw, Xnor, Ror, Rol
 use Rattle.op.specs.declared.StoreKind.TheVariants.{Sd}
 use Rattle.op.specs.declared.BranchKind.TheVariants.{Beq}
 use Rattle.op.specs.declared.Op.TheVariants.{AluImm, AluReg, Store, Branch, Jalr}
-use Rattle.op.specs.declared.Decoded.TheVariants.{Some}
 use Rattle.manual.specs.Words.{format_by, manual_word}
 use Rattle.manual.specs.Alu.{zeros, set_bits, manual_alu}
+use Rattle.std.specs.Prelude.{Some}
 
 -- the last three are beq a1, a2, -4; sd a2, -8(a1); jalr ra, -2(a0)
 pub assembled : (manual_word 0x40c58533 ≡ Some (AluReg Sub 10 11 12))

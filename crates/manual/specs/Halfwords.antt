@@ -1,7 +1,7 @@
 -- Halfwords: the manual's listings of the C extension by quadrant, each row as the instruction that it expands into.
 -- Reserved encodings and C.EBREAK have none, and neither have the floating-point loads and stores.
 -- Assumes nothing.
-use Rattle.std.specs.Prelude.{ℕ, ◌+◌, Bool, true, false, cond, List, [], ◌∷◌, eqb, pos}
+use Rattle.std.specs.Prelude.{ℕ, ◌+◌, Bool, true, false, cond, List, [], ◌∷◌, eqb, pos, Option, Some, None}
 use Rattle.bits.specs.Bits.{signed}
 use Rattle.bits.specs.Match.{Row, ◌⇒◌, case}
 use Rattle.op.specs.declared.AluKind.{AluKind}
@@ -11,8 +11,6 @@ use Rattle.op.specs.declared.StoreKind.TheVariants.{Sw, Sd}
 use Rattle.op.specs.declared.BranchKind.TheVariants.{Beq, Bne}
 use Rattle.op.specs.declared.Op.{Op}
 use Rattle.op.specs.declared.Op.TheVariants.{Lui, AluImm, AluReg, Load, Store, Branch, Jal, Jalr}
-use Rattle.op.specs.declared.Decoded.{Decoded}
-use Rattle.op.specs.declared.Decoded.TheVariants.{Some, None}
 use Rattle.manual.specs.Figures.{slice, imm, skip, figure}
 
 -- rd or rs1, and rs2; the three-bit fields name x8 to x15
@@ -66,12 +64,12 @@ abbrev pub sdsp : ℕ → ℕ
 sdsp w = figure w 16 (skip 3 ∷ imm 5 3 ∷ imm 8 6 ∷ skip 5 ∷ skip 2 ∷ [])
 
 -- a row with a note such as (RES, rd=0)
-abbrev pub none_if : Bool → Op → Decoded
+abbrev pub none_if : Bool → Op → Option Op
 none_if true op = None
 none_if false op = Some op
 
 -- by funct3
-abbrev pub quadrant0 : ℕ → List (Row Decoded)
+abbrev pub quadrant0 : ℕ → List (Row (Option Op))
 quadrant0 w =
     -- C.ADDI4SPN (RES, nzuimm=0), C.LW, C.LD, C.SW, C.SD
     (0b000 ⇒ none_if (eqb (addi4spn w) 0) (AluImm Add (rs2' w) 2 (pos (addi4spn w))))
@@ -81,22 +79,22 @@ quadrant0 w =
     ∷ (0b111 ⇒ Some (Store Sd (rs1' w) (rs2' w) (pos (ld w))))
     ∷ []
 
-abbrev pub ca : AluKind → ℕ → Decoded
+abbrev pub ca : AluKind → ℕ → Option Op
 ca k w = Some (AluReg k (rs1' w) (rs1' w) (rs2' w))
 
 -- C.SUB, C.XOR, C.OR, C.AND; C.SUBW, C.ADDW; by bits 6 and 5
-abbrev pub arith64 : ℕ → List (Row Decoded)
+abbrev pub arith64 : ℕ → List (Row (Option Op))
 arith64 w = (0b00 ⇒ ca Sub w) ∷ (0b01 ⇒ ca Xor w) ∷ (0b10 ⇒ ca Or w) ∷ (0b11 ⇒ ca And w) ∷ []
 
-abbrev pub arith32 : ℕ → List (Row Decoded)
+abbrev pub arith32 : ℕ → List (Row (Option Op))
 arith32 w = (0b00 ⇒ ca Subw w) ∷ (0b01 ⇒ ca Addw w) ∷ []
 
 -- by bit 12
-abbrev pub groups : ℕ → ℕ → List (Row Decoded)
+abbrev pub groups : ℕ → ℕ → List (Row (Option Op))
 groups funct2 w = (0 ⇒ case funct2 (arith64 w) None) ∷ (1 ⇒ case funct2 (arith32 w) None) ∷ []
 
 -- C.SRLI, C.SRAI, C.ANDI, and the two groups above; by bits 11 and 10
-abbrev pub misc_alu : ℕ → List (Row Decoded)
+abbrev pub misc_alu : ℕ → List (Row (Option Op))
 misc_alu w =
     (0b00 ⇒ Some (AluImm Srl (rs1' w) (rs1' w) (pos (imm6 w))))
     ∷ (0b01 ⇒ Some (AluImm Sra (rs1' w) (rs1' w) (pos (imm6 w))))
@@ -104,7 +102,7 @@ misc_alu w =
     ∷ (0b11 ⇒ case (slice w 12 12) (groups (slice w 6 5) w) None)
     ∷ []
 
-abbrev pub quadrant1 : ℕ → List (Row Decoded)
+abbrev pub quadrant1 : ℕ → List (Row (Option Op))
 quadrant1 w =
     -- C.ADDI, C.ADDIW (RES, rd=0), C.LI
     (0b000 ⇒ Some (AluImm Add (rd w) (rd w) (signed 6 (imm6 w))))
@@ -123,13 +121,13 @@ quadrant1 w =
     ∷ []
 
 -- C.JR (RES, rs1=0) and C.MV where bit 12 is 0; C.EBREAK where rs1 and rs2 are 0, C.JALR and C.ADD where it is 1
-abbrev pub jump_rows : ℕ → List (Row Decoded)
+abbrev pub jump_rows : ℕ → List (Row (Option Op))
 jump_rows w =
     (0 ⇒ cond (eqb (rs2 w) 0) (none_if (eqb (rd w) 0) (Jalr 0 (rd w) (pos 0))) (Some (AluReg Add (rd w) 0 (rs2 w))))
     ∷ (1 ⇒ cond (eqb (rs2 w) 0) (none_if (eqb (rd w) 0) (Jalr 1 (rd w) (pos 0))) (Some (AluReg Add (rd w) (rd w) (rs2 w))))
     ∷ []
 
-abbrev pub quadrant2 : ℕ → List (Row Decoded)
+abbrev pub quadrant2 : ℕ → List (Row (Option Op))
 quadrant2 w =
     -- C.SLLI, C.LWSP (RES, rd=0), C.LDSP (RES, rd=0)
     (0b000 ⇒ Some (AluImm Sll (rd w) (rd w) (pos (imm6 w))))
@@ -141,13 +139,13 @@ quadrant2 w =
     ∷ (0b111 ⇒ Some (Store Sd 2 (rs2 w) (pos (sdsp w))))
     ∷ []
 
-abbrev pub quadrants : ℕ → ℕ → List (Row Decoded)
+abbrev pub quadrants : ℕ → ℕ → List (Row (Option Op))
 quadrants funct3 w =
     (0b00 ⇒ case funct3 (quadrant0 w) None) ∷ (0b01 ⇒ case funct3 (quadrant1 w) None) ∷ (0b10 ⇒ case funct3 (quadrant2 w) None)
     ∷ []
 
-abbrev pub half_by : ℕ → ℕ → ℕ → Decoded
+abbrev pub half_by : ℕ → ℕ → ℕ → Option Op
 half_by quadrant funct3 w = case quadrant (quadrants funct3 w) None
 
-abbrev pub manual_half : ℕ → Decoded
+abbrev pub manual_half : ℕ → Option Op
 manual_half w = half_by (slice w 1 0) (slice w 15 13) w

@@ -1,7 +1,7 @@
 -- Words: the manual's instruction listings, one row for each instruction, by opcode.
 -- Reserved encodings, and instructions that have no op (FENCE, ECALL, EBREAK and whatever is not listed here), have none.
 -- Assumes nothing.
-use Rattle.std.specs.Prelude.{ℕ, ◌/◌, Bool, true, cond, ◌&&◌, List, [], ◌∷◌, eqb, pos}
+use Rattle.std.specs.Prelude.{ℕ, ◌/◌, Bool, true, cond, ◌&&◌, List, [], ◌∷◌, eqb, pos, Option, Some, None}
 use Rattle.bits.specs.Bits.{signed}
 use Rattle.bits.specs.Match.{◌⇒◌, case}
 use Rattle.op.specs.declared.AluKind.{AluKind}
@@ -13,9 +13,8 @@ use Rattle.op.specs.declared.LoadKind.TheVariants.{Lb, Lbu, Lh, Lhu, Lw, Lwu, Ld
 use Rattle.op.specs.declared.StoreKind.TheVariants.{Sb, Sh, Sw, Sd}
 use Rattle.op.specs.declared.AluKind.TheVariants.{Add, Sub, Sll, Slt, Sltu, Xor, Srl, Sra, Or, And, Addw, Subw, Sllw, Srlw, Sraw, Mul, Mulh, Mulhsu, Mulhu, Div, Divu, Rem, Remu, Mulw, Divw, Divuw, Remw, Remuw, Andn, Orn, Xnor, Rol, Ror, Rolw, Rorw, Min, Max, Minu, Maxu, Clz, Ctz, Cpop, Clzw, Ctzw, Cpopw, SextB, SextH, ZextH, Rev8, OrcB, Sh1add, Sh2add, Sh3add, AddUw, Sh1addUw, Sh2addUw, Sh3addUw, SlliUw}
 use Rattle.op.specs.declared.Op.TheVariants.{Lui, Auipc, AluImm, AluReg, Load, Store, Branch, Jal, Jalr}
-use Rattle.op.specs.declared.Decoded.{Decoded}
-use Rattle.op.specs.declared.Decoded.TheVariants.{Some, None}
 use Rattle.manual.specs.Figures.{slice, imm, skip, figure}
+use Rattle.op.specs.declared.Op.{Op}
 
 -- the format of an instruction's operands, with the op that it makes. I6 and I5 have a shift amount of six or five bits in place of
 -- the immediate, and I0 has none: all twelve bits belong to the opcode. NoRow where no row of the listings fits
@@ -173,7 +172,7 @@ imm_u w = figure w 32 (imm 31 12 ∷ skip 5 ∷ skip 7 ∷ [])
 abbrev pub imm_j : ℕ → ℕ
 imm_j w = figure w 32 (imm 20 20 ∷ imm 10 1 ∷ imm 11 11 ∷ imm 19 12 ∷ skip 5 ∷ skip 7 ∷ [])
 
-abbrev pub op_of : ℕ → Format → Decoded
+abbrev pub op_of : ℕ → Format → Option Op
 op_of w NoRow = None
 op_of w LUI = Some (Lui (rd w) (signed 32 (imm_u w)))
 op_of w AUIPC = Some (Auipc (rd w) (signed 32 (imm_u w)))
@@ -188,5 +187,5 @@ op_of w (I5 k) = Some (AluImm k (rd w) (rs1 w) (pos (slice w 24 20)))
 op_of w (I0 k) = Some (AluImm k (rd w) (rs1 w) (pos 0))
 op_of w (R k) = Some (AluReg k (rd w) (rs1 w) (rs2 w))
 
-abbrev pub manual_word : ℕ → Decoded
+abbrev pub manual_word : ℕ → Option Op
 manual_word w = op_of w (format_of w)

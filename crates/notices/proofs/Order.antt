@@ -14,13 +14,13 @@ use Rattle.store.specs.declared.Geometry.{Geometry}
 use Rattle.cache.specs.Answers.{report_number, nothing_done, reported}
 use Rattle.cache.specs.Calls.{noticed_in, report_in, summed, notice_by, notice_call, flush_call}
 use Rattle.cache.specs.declared.Report.{Report}
-use Rattle.cache.specs.declared.ReportAnswer.TheVariants.{Reported}
 use Rattle.cache.proofs.Reports.{none-summed, summed_assoc}
 use Rattle.cache.proofs.View.{fitting_noticed, report_apart}
 use Rattle.cache.proofs.Order.{noticed_alike, report_alike, noticed_again, report_again, noticed_comm, report_comm, on_any_bytes, notice-opened}
 use Rattle.cache.proofs.FlushAfter.{flush_after_notice}
 use Rattle.notices.specs.Notices.{noticed_all, report_all, notices_by, notices_call}
 use Rattle.notices.specs.Pages.{names, report_once}
+use Rattle.std.specs.Prelude.{Ok}
 
 -- an address that a list has lies in a page that it names, and where it names a page, it has an address there
 in_names : (list : List ℕ) (a : ℕ) → Mem a list → names list (a / 4096) ≡ true
@@ -155,7 +155,7 @@ module _ (s : List ℕ) where
 
   pub one_notice : (a : ℕ) → notices_call s (a ∷ []) ≡ notice_call s a
   unfolding noticed_all report_all
-  one_notice a = on_any_bytes s (λ o. notices_by o s (a ∷ []) ≡ notice_by o s a) (λ g f. ap (λ (r : Report). (Reported r, noticed_in g s a)) (none-summed (report_in g s a))) refl
+  one_notice a = on_any_bytes s (λ o. notices_by o s (a ∷ []) ≡ notice_by o s a) (λ g f. ap (λ (r : Report). (Ok r, noticed_in g s a)) (none-summed (report_in g s a))) refl
 
   -- one notice, and then the others
   module _ (a : ℕ) (rest : List ℕ) where
@@ -173,7 +173,7 @@ module _ (s : List ℕ) where
   pub same_pages : (one two : List ℕ) → ((page : ℕ) → names one page ≡ names two page) → notices_call s one ≡ notices_call s two
   same_pages one two same =
       on_any_bytes s (λ o. notices_by o s one ≡ notices_by o s two)
-      (λ g f. ap (λ (o : Report × List ℕ). (Reported o.0, o.1)) (outcome_same g s f one two same)) refl
+      (λ g f. ap (λ (o : Report × List ℕ). (Ok o.0, o.1)) (outcome_same g s f one two same)) refl
 
   -- by the store before the list: what one notice for each of its pages reports
   apart_report : (a : ℕ) (rest : List ℕ) → names rest (a / 4096) ≡ false → reported (notices_call (notice_call s a).1 rest).0 ≡ reported (notices_call s rest).0

@@ -5,9 +5,9 @@ ghost use Rattle.std.specs.Prelude.{◌≡◌};
 ghost use Rattle.store.specs.Layout.{Fitting};
 ghost use Rattle.notices.specs.Notices.{noticed_all, report_all, notices_call};
 
-use answer::Refusal;
-use cache::{Report, ReportAnswer};
-use store::{Geometry, Opened};
+use answer::{Answer, Refusal};
+use cache::Report;
+use store::Geometry;
 
 // A notice at each address, in a store whose header was checked.
 fn notices_in(store: &mut [u8], g: Geometry, addresses: &[u64]) -> Report
@@ -15,20 +15,16 @@ fn notices_in(store: &mut [u8], g: Geometry, addresses: &[u64]) -> Report
     ensures { (result ≡ report_all g store.old addresses.now) × (store.new ≡ noticed_all g store.old addresses.now) }
 {
     let mut report = Report::nothing();
-    let mut i = 0;
-    while i < addresses.len() {
-        report = cache::sum(report, cache::notice_in(store, g, addresses[i]));
-        i += 1;
+    for address in addresses {
+        report = cache::sum(report, cache::notice_in(store, g, *address));
     }
     report
 }
 
 // A notice at each address of the list, one after the other. As with one, they come after the writes and before the next lookup.
-pub fn notices(store: &mut [u8], addresses: &[u64]) -> ReportAnswer
+pub fn notices(store: &mut [u8], addresses: &[u64]) -> Answer<Report>
     ensures { (result, store.new) ≡ notices_call store.old addresses.now }
 {
-    match store::open(store) {
-        Opened::Sound(g) => ReportAnswer::Reported(notices_in(store, g, addresses)),
-        Opened::NotAStore => ReportAnswer::NotReported(Refusal::NoStore),
-    }
+    let g = store::open(store).ok_or(Refusal::NoStore)?;
+    Ok(notices_in(store, g, addresses))
 }

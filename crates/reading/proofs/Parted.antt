@@ -11,19 +11,19 @@ use Rattle.bits.specs.Bits.{bits_at}
 use Rattle.bits.proofs.Tests.{and_both, not_true}
 use Rattle.op.specs.declared.AluKind.{AluKind}
 use Rattle.op.specs.declared.Op.TheVariants.{AluImm, AluReg}
-use Rattle.op.specs.declared.Decoded.{Decoded}
-use Rattle.op.specs.declared.Decoded.TheVariants.{Some}
 use Rattle.word.specs.Instruction as inst
 use Rattle.word.specs.Word.{rust_word}
 use Rattle.manual.specs.Words.{manual_word}
 use Rattle.agree.specs.Differences.{listed, imm, unary, reg, binary, row, half_entries}
 use Rattle.agree.proofs.Words as words
+use Rattle.op.specs.declared.Op.{Op}
+use Rattle.std.specs.Prelude.{Option, Some}
 
 -- an entry's answer, with the operands that the decoder read
-pub unary_made : (kind : AluKind) (w a b : ℕ) → a ≡ inst.rd w → b ≡ inst.rs1 w → {d : Decoded} → unary kind w ≡ d → Some (AluImm kind a b (pos 0)) ≡ d
+pub unary_made : (kind : AluKind) (w a b : ℕ) → a ≡ inst.rd w → b ≡ inst.rs1 w → {d : Option Op} → unary kind w ≡ d → Some (AluImm kind a b (pos 0)) ≡ d
 unary_made kind w a b ea eb e = rw (ea, eb) e
 
-pub binary_made : (kind : AluKind) (w a b c : ℕ) → a ≡ inst.rd w → b ≡ inst.rs1 w → c ≡ inst.rs2 w → {d : Decoded} → binary kind w ≡ d → Some (AluReg kind a b c) ≡ d
+pub binary_made : (kind : AluKind) (w a b c : ℕ) → a ≡ inst.rd w → b ≡ inst.rs1 w → c ≡ inst.rs2 w → {d : Option Op} → binary kind w ≡ d → Some (AluReg kind a b c) ≡ d
 binary_made kind w a b c ea eb ec e = rw (ea, eb, ec) e
 
 -- the three fields that an entry of words asks for

@@ -9,8 +9,6 @@ use lib.Dec.{eqb}
 use Rattle.op.specs.Record.{fallback_number, op_fields}
 use Rattle.op.specs.Proper.{Proper}
 use Rattle.op.specs.declared.Op.{Op}
-use Rattle.op.specs.declared.Decoded.{Decoded}
-use Rattle.op.specs.declared.Decoded.TheVariants.{Some}
 use Rattle.op.proofs.Fallback.{Other, none, some, other_op}
 use Rattle.word.proofs.Read.{word_op}
 use Rattle.halfword.proofs.Read.{half_op}
@@ -18,8 +16,9 @@ use Rattle.agree.specs.Differences.{Entry, amended, word_entries, half_entries}
 use Rattle.agree.proofs.Words as words
 use Rattle.agree.proofs.Halfwords as halves
 use Rattle.reading.specs.Readings.{rust, manual, reading_of}
+use Rattle.std.specs.Prelude.{Option, Some}
 
-abbrev pub ProperIn : Decoded → Type 0
+abbrev pub ProperIn : Option Op → Type 0
 ProperIn d = (op : Op) → d ≡ Some op → (eqb (op_fields op).op fallback_number ≡ false) × Proper op
 
 -- a list of entries whose answers are
@@ -27,11 +26,11 @@ abbrev Each : List Entry → Type 0
 Each [] = Unit {0}
 Each (e ∷ es) = ((w : ℕ) → Other (e.manual w)) × Each es
 
-amended_proper : (es : List Entry) → Each es → (f : ℕ → Decoded) (w : ℕ) → ProperIn (f w) → ProperIn (amended es f w)
+amended_proper : (es : List Entry) → Each es → (f : ℕ → Option Op) (w : ℕ) → ProperIn (f w) → ProperIn (amended es f w)
 amended_proper [] each f w p = p
 amended_proper (e ∷ es) each f w p = by (e.covers w) (amended_proper es each.1 f w p)
   where
-    by : (b : Bool) {d : Decoded} → ProperIn d → ProperIn (cond b (e.manual w) d)
+    by : (b : Bool) {d : Option Op} → ProperIn d → ProperIn (cond b (e.manual w) d)
     by true p = λ op. other_op (e.manual w) op (each.0 w)
     by false p = p
 

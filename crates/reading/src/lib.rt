@@ -11,61 +11,54 @@ ghost use Rattle.reading.specs.Readings.{reading_of};
 ghost use Rattle.reading.specs.Apart.{or_rust};
 
 use halfword::instruction::CompressedInstruction;
-use op::{AluKind, Decoded, Op};
+use op::{AluKind, Op};
 use word::instruction::Instruction;
 
 const MANUAL: u64 = 1;
 
-// What the manual reads a word as: something of its own, or what the Rust does.
-#[derive(Drop)]
-pub enum Apart {
-    Reads(Decoded),
-    Alike,
-}
-
-// Opcode 0x13. The key has funct3, then bits 31 to 20, and then bits 1 and 0, in hexadecimal.
-fn imm_apart(inst: Instruction) -> Apart
+// What the manual reads a word as where it parts from the Rust, and None where the Rust's rows say it. Opcode 0x13. The key has funct3, then bits 31 to 20, and then bits 1 and 0, in hexadecimal.
+fn imm_apart(inst: Instruction) -> Option<Option<Op>>
     requires { bits_at inst.0 2 5 ≡ 0x4 }
     ensures { or_rust result (rust_word inst.0) ≡ manual_word inst.0 }
 {
     let rd = inst.rd();
     let rs1 = inst.rs1();
     match inst.funct3() * 0x1_0000 + inst.0 / 0x10_0000 % 0x1000 * 0x10 + inst.0 % 4 {
-        0x1_6043 => Apart::Reads(Decoded::Some(Op::AluImm {
+        0x1_6043 => Some(Some(Op::AluImm {
             kind: AluKind::SextB,
             rd,
             rs1,
             imm: 0,
         })),
-        0x1_6053 => Apart::Reads(Decoded::Some(Op::AluImm {
+        0x1_6053 => Some(Some(Op::AluImm {
             kind: AluKind::SextH,
             rd,
             rs1,
             imm: 0,
         })),
-        0x1_6823 => Apart::Reads(Decoded::None),
-        0x1_6843 => Apart::Reads(Decoded::None),
-        0x5_2873 => Apart::Reads(Decoded::Some(Op::AluImm {
+        0x1_6823 => Some(None),
+        0x1_6843 => Some(None),
+        0x5_2873 => Some(Some(Op::AluImm {
             kind: AluKind::OrcB,
             rd,
             rs1,
             imm: 0,
         })),
-        0x5_6b83 => Apart::Reads(Decoded::Some(Op::AluImm {
+        0x5_6b83 => Some(Some(Op::AluImm {
             kind: AluKind::Rev8,
             rd,
             rs1,
             imm: 0,
         })),
-        0x5_5073 => Apart::Reads(Decoded::None),
-        0x5_d483 => Apart::Reads(Decoded::None),
-        0x5_d583 => Apart::Reads(Decoded::None),
-        _ => Apart::Alike,
+        0x5_5073 => Some(None),
+        0x5_d483 => Some(None),
+        0x5_d583 => Some(None),
+        _ => None,
     }
 }
 
 // Opcode 0x33. The key has funct3, then funct7, and then bits 1 and 0, in hexadecimal.
-fn reg_apart(inst: Instruction) -> Apart
+fn reg_apart(inst: Instruction) -> Option<Option<Op>>
     requires { bits_at inst.0 2 5 ≡ 0xc }
     ensures { or_rust result (rust_word inst.0) ≡ manual_word inst.0 }
 {
@@ -73,35 +66,35 @@ fn reg_apart(inst: Instruction) -> Apart
     let rs1 = inst.rs1();
     let rs2 = inst.rs2();
     match inst.funct3() * 0x1_0000 + inst.funct7() * 0x10 + inst.0 % 4 {
-        0x5_0053 => Apart::Reads(Decoded::Some(Op::AluReg {
+        0x5_0053 => Some(Some(Op::AluReg {
             kind: AluKind::Minu,
             rd,
             rs1,
             rs2,
         })),
-        0x6_0053 => Apart::Reads(Decoded::Some(Op::AluReg {
+        0x6_0053 => Some(Some(Op::AluReg {
             kind: AluKind::Max,
             rd,
             rs1,
             rs2,
         })),
-        _ => Apart::Alike,
+        _ => None,
     }
 }
 
 // What a reading makes of a word that the Rust's rows do not say. By bits 6 to 2 and not by the whole opcode: else the compiler leads each way into a
 // copy of the Rust's arm of its own, and those have jumps where the one arm looks its kinds up.
-fn word_apart(reading: u64, raw: u32) -> Apart
+fn word_apart(reading: u64, raw: u32) -> Option<Option<Op>>
     ensures { or_rust result (rust_word raw) ≡ (reading_of reading).of_word raw }
 {
     if reading != MANUAL {
-        return Apart::Alike;
+        return None;
     }
     let inst = Instruction(raw);
     match raw / 4 % 0x20 {
         0x4 => imm_apart(inst),
         0xc => reg_apart(inst),
-        _ => Apart::Alike,
+        _ => None,
     }
 }
 
@@ -131,21 +124,18 @@ fn reserved_in(reading: u64, raw: u16) -> bool
 }
 
 // What a word is read as.
-pub fn read_word(reading: u64, raw: u32) -> Decoded
+pub fn read_word(reading: u64, raw: u32) -> Option<Op>
     ensures { result ≡ (reading_of reading).of_word raw }
 {
-    match word_apart(reading, raw) {
-        Apart::Reads(decoded) => decoded,
-        Apart::Alike => word::decode_full(raw),
-    }
+    word_apart(reading, raw).unwrap_or_else(|| word::decode_full(raw))
 }
 
 // What a halfword is read as.
-pub fn read_halfword(reading: u64, raw: u16) -> Decoded
+pub fn read_halfword(reading: u64, raw: u16) -> Option<Op>
     ensures { result ≡ (reading_of reading).of_half raw }
 {
     if reserved_in(reading, raw) {
-        return Decoded::None;
+        return None;
     }
     halfword::decode_compressed(raw)
 }

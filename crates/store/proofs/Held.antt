@@ -8,11 +8,11 @@ use Rattle.block.proofs.Head.{says}
 use Rattle.store.specs.Layout.{opened}
 use Rattle.store.specs.Places.{place_for, record_in}
 use Rattle.store.specs.declared.Geometry.{Geometry}
-use Rattle.store.specs.declared.Opened.TheVariants.{Sound}
 use Rattle.store.proofs.Known.{opened_says}
+use Rattle.std.specs.Prelude.{Some}
 
 module _ (g : Geometry) (rec : List ℕ) where
-  pub place_long : (s : List ℕ) → opened s ≡ Sound g → length rec ≡ 1040 → length (place_for g rec) ≡ g.stride
+  pub place_long : (s : List ℕ) → opened s ≡ Some g → length rec ≡ 1040 → length (place_for g rec) ≡ g.stride
   unfolding place_for
   place_long s h l = l ∙ ap (λ (z : Geometry). z.stride) (opened_says s g h).is
 

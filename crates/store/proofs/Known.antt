@@ -8,7 +8,7 @@ use Rattle.block.proofs.Places as block
 use Rattle.bits.proofs.Tests.{and_both, not_true}
 use Rattle.store.specs.Layout.{signature, sized, in_bounds, front, store_len, geometry, stated, is_store, opened, Bounded, Fitting, holds, memory_page, slot_of, place_at}
 use Rattle.store.specs.declared.Geometry.{Geometry}
-use Rattle.store.specs.declared.Opened.TheVariants.{Sound, NotAStore}
+use Rattle.std.specs.Prelude.{Some, None}
 
 -- a 1 shifted within the width
 pub shl_one : (w e : ℕ) → e < w → (1 * 2 ^ e) % 2 ^ w ≡ 2 ^ e
@@ -76,11 +76,11 @@ pub is-header : (s : List ℕ) → Header s → is_store s ≡ true
 unfolding is_store
 is-header s h = rw (le-leb 32 (length s) h.long, eq-eqb _ _ h.signed.1, le-leb (get_or s 3 0) 1 h.signed.0, h.bounded) (eq-eqb _ _ h.exact)
 
-pub opened-sound : (s : List ℕ) → Header s → opened s ≡ Sound (stated s)
+pub opened-sound : (s : List ℕ) → Header s → opened s ≡ Some (stated s)
 unfolding opened
 opened-sound s h = rw (is-header s h)
 
-pub opened-not : (s : List ℕ) → (Header s → ⊥) → opened s ≡ NotAStore
+pub opened-not : (s : List ℕ) → (Header s → ⊥) → opened s ≡ None
 unfolding opened
 opened-not s f = rw (not_true (is_store s) (λ h. f (header_is s h)))
 
@@ -90,11 +90,11 @@ pub record Known (s : List ℕ) (g : Geometry) : Type 0 where
   pub head : Header s
   pub is : stated s ≡ g
 
-pub opened_says : (s : List ℕ) (g : Geometry) → opened s ≡ Sound g → Known s g
+pub opened_says : (s : List ℕ) (g : Geometry) → opened s ≡ Some g → Known s g
 unfolding opened
 opened_says s g h = go (is_store s) refl h
   where
-    go : (b : Bool) → is_store s ≡ b → cond b (Sound (stated s)) NotAStore ≡ Sound g → Known s g
+    go : (b : Bool) → is_store s ≡ b → cond b (Some (stated s)) None ≡ Some g → Known s g
     go true e k =
         let q : stated s ≡ g = cc in
         let w = header_is s e in

@@ -15,11 +15,10 @@ use Rattle.op.specs.Reading.{reading_known}
 use Rattle.store.specs.Layout.{signature, header, sized, in_bounds, front, store_len, geometry, stated, is_store, opened, Bounded, Fitting, place_at, generation_of, bumped}
 use Rattle.store.specs.Places.{page_bit, place_in, put_bit, with_bit, empty_place, vacated, each_place, copies, blank}
 use Rattle.store.specs.declared.Geometry.{Geometry}
-use Rattle.store.specs.declared.Opened.{Opened}
-use Rattle.store.specs.declared.Opened.TheVariants.{Sound, NotAStore}
 use Rattle.store.proofs.Bits.{bit_with}
 use Rattle.store.proofs.Known.{after, bounds_are, Header, opened-sound, place_fits, front_fits, bit-fits}
 use Rattle.store.proofs.Places.{empty_made, length_empty, length-vacated, length-copies}
+use Rattle.std.specs.Prelude.{Option, Some, None}
 
 -- eight bytes that are the same say the same number
 same_word : (k : ℕ) (z s : List ℕ) → ((j : ℕ) → k ≤ j → j < k + 8 → get_or z j 0 ≡ get_or s j 0) → doubleword_at z k ≡ doubleword_at s k
@@ -30,9 +29,9 @@ zero_bit : (k : ℕ) → eqb (bit 0 k) 1 ≡ false
 zero_bit k = ne_eqb (bit 0 k) 1 (λ h. omega (arith, bit_above 0 0 k (lit< tt) (omega arith)))
 
 -- the header check reads the length and the first 24 bytes
-opened_by : ℕ → ℕ → ℕ → ℕ → ℕ → ℕ → Opened
+opened_by : ℕ → ℕ → ℕ → ℕ → ℕ → ℕ → Option Geometry
 opened_by n r e t b p =
-    cond (leb 32 n && (eqb t (doubleword_at (signature r e) 0) && (in_bounds r e b p && eqb n (store_len (geometry r e b p))))) (Sound (geometry r e b p)) NotAStore
+    cond (leb 32 n && (eqb t (doubleword_at (signature r e) 0) && (in_bounds r e b p && eqb n (store_len (geometry r e b p))))) (Some (geometry r e b p)) None
 
 opened_by_lem : (s : List ℕ) → opened s ≡ opened_by (length s) (get_or s 3 0) (get_or s 6 0) (doubleword_at s 0) (doubleword_at s 8) (doubleword_at s 16)
 unfolding opened is_store opened_by
@@ -314,9 +313,9 @@ module _ (reading e base pages : ℕ) (w : in_bounds reading e base pages ≡ tr
   pub header_long : length (header (geometry reading e base pages) 1) ≡ 32
   header_long = simp (length-append, length-le)
 
-  pub opened_made : opened (header (geometry reading e base pages) 1 ++ blank (geometry reading e base pages)) ≡ Sound (geometry reading e base pages)
+  pub opened_made : opened (header (geometry reading e base pages) 1 ++ blank (geometry reading e base pages)) ≡ Some (geometry reading e base pages)
   unfolding le
-  opened_made = opened-sound made head ∙ ap Sound is
+  opened_made = opened-sound made head ∙ ap Some is
     where
       g : Geometry
       g = geometry reading e base pages

@@ -1,12 +1,10 @@
 -- The cache store (docs/FORMATS.md, The store): a header of 32 bytes, the page bitmap, 2 ^ e places.
 -- Assumes nothing.
-use Rattle.std.specs.Prelude.{◌≡◌, ℕ, ◌+◌, ◌-◌, ◌*◌, ◌/◌, ◌%◌, ◌^◌, ◌≤◌, Bool, cond, ◌&&◌, List, [], ◌∷◌, ◌++◌, length, ◌==◌, nat_le, slice_index}
+use Rattle.std.specs.Prelude.{◌≡◌, ℕ, ◌+◌, ◌-◌, ◌*◌, ◌/◌, ◌%◌, ◌^◌, ◌≤◌, Bool, cond, ◌&&◌, List, [], ◌∷◌, ◌++◌, length, ◌==◌, nat_le, slice_index, Option, Some, None}
 use Rattle.bits.specs.Bytes.{le, doubleword_at, patch}
 use Rattle.op.specs.Reading.{reading_known}
 use Rattle.block.specs.Memory.{good_memory, in_memory}
 use Rattle.store.specs.declared.Geometry.{Geometry}
-use Rattle.store.specs.declared.Opened.{Opened}
-use Rattle.store.specs.declared.Opened.TheVariants.{Sound, NotAStore}
 
 -- where the reading, e, the base, the page count and the generation stand in the header, and its length
 abbrev pub reading_at : ℕ
@@ -61,8 +59,8 @@ is_store s =
     && (in_bounds (slice_index s reading_at) (slice_index s e_at) (doubleword_at s base_at) (doubleword_at s pages_at) && length s == store_len (stated s)))
 
 -- the header check
-unfoldable pub opened : List ℕ → Opened
-opened s = cond (is_store s) (Sound (stated s)) NotAStore
+unfoldable pub opened : List ℕ → Option Geometry
+opened s = cond (is_store s) (Some (stated s)) None
 
 -- what the check leaves known; the calls' parts ask for it
 pub record Bounded (g : Geometry) : Type 0 where

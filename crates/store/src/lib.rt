@@ -38,13 +38,6 @@ pub struct Geometry {
     pub stride: usize,
 }
 
-// What the header check finds.
-#[derive(Drop)]
-pub enum Opened {
-    Sound(Geometry),
-    NotAStore,
-}
-
 // The bounds on e and memory.
 fn sized(e: u64, base: u64, pages: u64) -> bool
     ensures { result ≡ sized e base pages }
@@ -150,26 +143,26 @@ fn first_number(store: &[u8]) -> u64
 }
 
 // The header check: signature, bounds and length. Nothing else in the store is trusted.
-pub fn open(store: &[u8]) -> Opened
+pub fn open(store: &[u8]) -> Option<Geometry>
     ensures { result ≡ opened store.now }
 {
     if store.len() < HEADER {
-        return Opened::NotAStore;
+        return None;
     }
     let g = stated(store);
     let first = first_number(store);
     // Without its lowest bit byte 3 must be 0: that is the bound on the reading.
     if first - first / READING_UNIT % 2 * READING_UNIT != SIGNATURE + g.e * E_UNIT {
-        return Opened::NotAStore;
+        return None;
     }
     if sized(g.e, g.base, g.pages) {
         if store.len() == g.store_len() {
-            Opened::Sound(g)
+            Some(g)
         } else {
-            Opened::NotAStore
+            None
         }
     } else {
-        Opened::NotAStore
+        None
     }
 }
 
@@ -186,7 +179,7 @@ pub fn page_bit(store: &[u8], page: u64) -> bool
     ensures { result ≡ page_bit store.now page }
 {
     let i = (HEADER as u64 + page / 8) as usize;
-    (bits::as_u64(store[i]) >> (page % 8)) % 2 == 1
+    (u64::from(store[i]) >> (page % 8)) % 2 == 1
 }
 
 fn put_bit(byte: u8, k: u64, on: bool) -> u8
@@ -227,7 +220,7 @@ fn empty(place: &mut [u8])
     requires { 8 ≤ length place.old }
     ensures { place.new ≡ empty_place (length place.old) }
 {
-    bits::fill(place, 0);
+    place.fill(0);
     bits::put_doubleword(place, 0, Slot::EMPTY);
 }
 
@@ -256,13 +249,11 @@ pub fn empty_places(store: &mut [u8], first: usize, stride: usize, n: usize, pag
     requires { (8 ≤ stride) × (first + stride * n ≤ length store.old) }
     ensures { (result ≡ places_in page first stride n store.old) × (store.new ≡ each_place (emptied page) first stride n store.old) }
 {
-    let mut i = 0;
     let mut at = first;
     let mut dropped = 0;
-    while i < n {
+    for _i in 0..n {
         dropped = empty_at(store, at, stride, page, dropped);
         at += stride;
-        i += 1;
     }
     dropped
 }
@@ -272,7 +263,7 @@ fn clear_from(store: &mut [u8], at: usize)
     requires { at ≤ length store.old }
     ensures { store.new ≡ patch store.old at (replicate (length store.old - at) 0) }
 {
-    bits::fill(&mut store[at..], 0);
+    store[at..].fill(0);
 }
 
 // The address of an empty place for each of n.
@@ -280,12 +271,10 @@ fn vacate_places(store: &mut [u8], first: usize, stride: usize, n: usize)
     requires { (8 ≤ stride) × (first + stride * n ≤ length store.old) }
     ensures { store.new ≡ each_place vacated first stride n store.old }
 {
-    let mut i = 0;
     let mut at = first;
-    while i < n {
+    for _i in 0..n {
         bits::put_doubleword(store, at, Slot::EMPTY);
         at += stride;
-        i += 1;
     }
 }
 

@@ -3,17 +3,18 @@
 #![tactic(auto)]
 
 ghost use Rattle.std.specs.Prelude.{◌≡◌};
-ghost use Rattle.answer.specs.Answer.{answer_number, valued_number, valued_value};
+ghost use Rattle.answer.specs.Answer.{answer_number, answer_value};
 ghost use Rattle.decode.specs.Call.{word_call, half_call};
 ghost use Rattle.alu.specs.Call.{alu_call};
 ghost use Rattle.form.specs.Call.{form_call};
-ghost use Rattle.cache.specs.Answers.{lookup_number, lookup_value};
+ghost use Rattle.cache.specs.Answers.{lookup_value};
 ghost use Rattle.cache.specs.Calls.{make_call, lookup_call, insert_call, notice_call, flush_call, generation_call};
 ghost use Rattle.notices.specs.Notices.{notices_call};
 ghost use Rattle.write.specs.Write.{write_call};
 ghost use Rattle.unvriscol.specs.Seen.{both, report_seen, seen, seen_with_two};
 
-use cache::ReportAnswer;
+use answer::Answer;
+use cache::Report;
 
 // The answer's number (docs/FORMATS.md), and the value beside it, which is 0 at every number but 0.
 #[repr(C)]
@@ -32,11 +33,19 @@ pub struct NumberedReport {
     pub dropped: u64,
 }
 
-fn report_seen(answer: ReportAnswer) -> NumberedReport
+fn numbered(answer: Answer<u64>) -> Numbered
+    ensures { (result.number, result.value) ≡ both answer_number answer_value answer }
+{
+    let number = answer::number(&answer);
+    let value = answer::value(answer);
+    Numbered { number, value }
+}
+
+fn report_seen(answer: Answer<Report>) -> NumberedReport
     ensures { (result.number, result.examined, result.dropped) ≡ report_seen answer }
 {
-    let number = answer.number();
-    let report = answer.report();
+    let number = answer::number(&answer);
+    let report = answer.unwrap_or(Report::nothing());
     NumberedReport {
         number,
         examined: report.examined,
@@ -49,8 +58,7 @@ fn report_seen(answer: ReportAnswer) -> NumberedReport
 pub extern "C" fn uv_decode_word(reading: u64, raw: u32, lent: &mut [u8]) -> u64
     ensures { (result, lent.new) ≡ seen answer_number (word_call reading raw lent.old) }
 {
-    let answer = decode::decode_word(reading, raw, lent);
-    answer.number()
+    answer::number(&decode::decode_word(reading, raw, lent))
 }
 
 // Decodes a halfword into the lent op record.
@@ -58,19 +66,15 @@ pub extern "C" fn uv_decode_word(reading: u64, raw: u32, lent: &mut [u8]) -> u64
 pub extern "C" fn uv_decode_halfword(reading: u64, raw: u16, lent: &mut [u8]) -> u64
     ensures { (result, lent.new) ≡ seen answer_number (half_call reading raw lent.old) }
 {
-    let answer = decode::decode_halfword(reading, raw, lent);
-    answer.number()
+    answer::number(&decode::decode_halfword(reading, raw, lent))
 }
 
 // Computes an ALU kind, given by its number; the value is the result.
 #[unsafe(no_mangle)]
 pub extern "C" fn uv_alu(kind: u64, lhs: u64, rhs: u64) -> Numbered
-    ensures { (result.number, result.value) ≡ both valued_number valued_value (alu_call kind lhs rhs) }
+    ensures { (result.number, result.value) ≡ both answer_number answer_value (alu_call kind lhs rhs) }
 {
-    let answer = alu::alu_call(kind, lhs, rhs);
-    let number = answer.number();
-    let value = answer.value();
-    Numbered { number, value }
+    numbered(alu::alu_call(kind, lhs, rhs))
 }
 
 // Forms the block at an address of guest memory into the lent block record.
@@ -84,8 +88,7 @@ pub extern "C" fn uv_form(
 ) -> u64
     ensures { (result, lent.new) ≡ seen answer_number (form_call reading memory.now base address lent.old) }
 {
-    let answer = form::form(reading, memory, base, address, lent);
-    answer.number()
+    answer::number(&form::form(reading, memory, base, address, lent))
 }
 
 // Makes a new store of the lent bytes.
@@ -93,19 +96,15 @@ pub extern "C" fn uv_form(
 pub extern "C" fn uv_make(store: &mut [u8], reading: u64, e: u64, base: u64, pages: u64) -> u64
     ensures { (result, store.new) ≡ seen answer_number (make_call reading e base pages store.old) }
 {
-    let answer = cache::make(store, reading, e, base, pages);
-    answer.number()
+    answer::number(&cache::make(store, reading, e, base, pages))
 }
 
 // Looks a block up; the value is where in the store its record begins.
 #[unsafe(no_mangle)]
 pub extern "C" fn uv_lookup(store: &[u8], address: u64) -> Numbered
-    ensures { (result.number, result.value) ≡ both lookup_number lookup_value (lookup_call store.now address) }
+    ensures { (result.number, result.value) ≡ both answer_number lookup_value (lookup_call store.now address) }
 {
-    let answer = cache::find(store, address);
-    let number = answer.number();
-    let value = answer.value();
-    Numbered { number, value }
+    numbered(cache::find(store, address).map(|hit| hit.at as u64))
 }
 
 // Inserts the block record into the place of its address's slot.
@@ -113,8 +112,7 @@ pub extern "C" fn uv_lookup(store: &[u8], address: u64) -> Numbered
 pub extern "C" fn uv_insert(store: &mut [u8], address: u64, lent: &[u8]) -> u64
     ensures { (result, store.new) ≡ seen answer_number (insert_call store.old address lent.now) }
 {
-    let answer = cache::insert(store, address, lent);
-    answer.number()
+    answer::number(&cache::insert(store, address, lent))
 }
 
 // Notices a write that was done at the address.
@@ -122,7 +120,7 @@ pub extern "C" fn uv_insert(store: &mut [u8], address: u64, lent: &[u8]) -> u64
 pub extern "C" fn uv_notice(store: &mut [u8], address: u64) -> NumberedReport
     ensures { ((result.number, result.examined, result.dropped), store.new) ≡ seen report_seen (notice_call store.old address) }
 {
-    let answer = cache::notice(store, address);
+    answer::number(&cache::notice(store, address);
     report_seen(answer)
 }
 
@@ -131,8 +129,7 @@ pub extern "C" fn uv_notice(store: &mut [u8], address: u64) -> NumberedReport
 pub extern "C" fn uv_notices(store: &mut [u8], addresses: &[u64]) -> NumberedReport
     ensures { ((result.number, result.examined, result.dropped), store.new) ≡ seen report_seen (notices_call store.old addresses.now) }
 {
-    let answer = notices::notices(store, addresses);
-    report_seen(answer)
+    report_seen(notices::notices(store, addresses))
 }
 
 // Empties the cache.
@@ -140,19 +137,15 @@ pub extern "C" fn uv_notices(store: &mut [u8], addresses: &[u64]) -> NumberedRep
 pub extern "C" fn uv_flush(store: &mut [u8]) -> u64
     ensures { (result, store.new) ≡ seen answer_number (flush_call store.old) }
 {
-    let answer = cache::flush(store);
-    answer.number()
+    report_seen(cache::flush(store))
 }
 
 // The value is the store's generation.
 #[unsafe(no_mangle)]
 pub extern "C" fn uv_generation(store: &[u8]) -> Numbered
-    ensures { (result.number, result.value) ≡ both valued_number valued_value (generation_call store.now) }
+    ensures { (result.number, result.value) ≡ both answer_number answer_value (generation_call store.now) }
 {
-    let answer = cache::generation(store);
-    let number = answer.number();
-    let value = answer.value();
-    Numbered { number, value }
+    numbered(cache::generation(store))
 }
 
 // Writes the low bytes of the value to guest memory, with a notice for each page touched.
@@ -166,6 +159,5 @@ pub extern "C" fn uv_guest_write(
 ) -> NumberedReport
     ensures { ((result.number, result.examined, result.dropped), store.new, memory.new) ≡ seen_with_two report_seen (write_call store.old memory.old address size value) }
 {
-    let answer = write::guest_write(store, memory, address, size, value);
-    report_seen(answer)
+    let answer = write::guest_write(store, memory, address, size, value))
 }

@@ -1,24 +1,22 @@
 -- The values marked P (docs/FORMATS.md, Values): a question and its answer in each row, of words and halfwords in either reading.
 -- Assumes nothing.
-use Rattle.std.specs.Prelude.{ℕ, List, [], ◌∷◌, pos, negsuc}
-use Rattle.answer.specs.declared.Valued.{Valued}
-use Rattle.answer.specs.declared.Valued.TheVariants.{Value}
-use Rattle.op.specs.declared.Decoded.{Decoded}
-use Rattle.op.specs.declared.Decoded.TheVariants.{Some, None}
+use Rattle.std.specs.Prelude.{ℕ, List, [], ◌∷◌, pos, negsuc, Option, Some, None, Ok}
 use Rattle.op.specs.declared.Op.TheVariants.{AluImm, AluReg, Jalr}
 use Rattle.op.specs.declared.AluKind.{AluKind}
 use Rattle.op.specs.declared.AluKind.TheVariants.{Add, SextB, Rev8, OrcB, Max, Minu, Sra, Addw, Clz, Clzw}
 use Rattle.op.specs.Reading.{Reading}
 use Rattle.reading.specs.Readings.{rust, manual}
 use Rattle.alu.specs.Rust.{rust_alu}
+use Rattle.answer.specs.Answer.{Answer}
+use Rattle.op.specs.declared.Op.{Op}
 
 pub data Question : Type 0 where
   halfword word : Reading → ℕ → Question
   alu : AluKind → ℕ → ℕ → Question
 
 pub data Reply : Type 0 where
-  reads : Decoded → Reply
-  computes : Valued → Reply
+  reads : Option Op → Reply
+  computes : Answer ℕ → Reply
 
 pub data Line : Type 0 where
   ◌is◌ : Question → Reply → Line
@@ -50,8 +48,8 @@ values =
     ∷ (word manual 0x28755513 is reads (Some (AluImm OrcB 10 10 (pos 0))))
     ∷ (word manual 0x0ac5d533 is reads (Some (AluReg Minu 10 11 12)))
     ∷ (halfword manual 0x4002 is reads None)
-    ∷ (alu Sra 0x8000_0000_0000_0000 1 is computes (Value 0xc000_0000_0000_0000))
-    ∷ (alu Addw 0x7fff_ffff 1 is computes (Value 0xffff_ffff_8000_0000))
-    ∷ (alu Clz 0 0 is computes (Value 64))
-    ∷ (alu Clzw 0 0 is computes (Value 32))
+    ∷ (alu Sra 0x8000_0000_0000_0000 1 is computes (Ok 0xc000_0000_0000_0000))
+    ∷ (alu Addw 0x7fff_ffff 1 is computes (Ok 0xffff_ffff_8000_0000))
+    ∷ (alu Clz 0 0 is computes (Ok 64))
+    ∷ (alu Clzw 0 0 is computes (Ok 32))
     ∷ []

@@ -15,16 +15,14 @@ use Rattle.block.proofs.Places.{spanned}
 use Rattle.store.specs.Layout.{opened, Bounded}
 use Rattle.store.specs.Places.{place_in, in_page}
 use Rattle.store.specs.declared.Geometry.{Geometry}
-use Rattle.store.specs.declared.Opened.{Opened}
-use Rattle.store.specs.declared.Opened.TheVariants.{Sound, NotAStore}
 use Rattle.store.proofs.Known.{slots_le}
 use Rattle.cache.proofs.Checks.{rejected}
 use Rattle.cache.specs.Answers.{nothing_done}
 use Rattle.cache.specs.Calls.{watched, dropped_in, report_in}
 use Rattle.answer.specs.declared.Refusal.TheVariants.{BadGeometry, OutsideMemory, WrongWriteSize}
-use Rattle.cache.specs.declared.Judged.TheVariants.{Accepted, Rejected}
 use Rattle.cache.specs.declared.Report.{Report}
 use Rattle.write.specs.Write.{good_size, write_judged}
+use Rattle.std.specs.Prelude.{Option, Some, None, Ok, Err}
 
 pub size_small : (n : ℕ) → good_size n ≡ true → (1 ≤ n) × (n ≤ 8)
 size_small n h =
@@ -35,7 +33,7 @@ size_small n h =
     (λ d. absurd (true_false h (rw (ne_eqb n 1 a, ne_eqb n 2 b, ne_eqb n 4 c, ne_eqb n 8 d)))))))
 
 pub record Granted (s : List ℕ) (len a n : ℕ) (g : Geometry) : Type 0 where
-  pub sound : opened s ≡ Sound g
+  pub sound : opened s ≡ Some g
   pub whole : len ≡ 4096 * g.pages
   pub some : 1 ≤ n
   pub few : n ≤ 8
@@ -43,27 +41,27 @@ pub record Granted (s : List ℕ) (len a n : ℕ) (g : Geometry) : Type 0 where
   pub high : a + n ≤ g.base + 4096 * g.pages
 
 module _ (s : List ℕ) (len a n : ℕ) (g : Geometry) where
-  pub write_granted : write_judged (opened s) len a n ≡ Accepted g → Granted s len a n g
+  pub write_granted : write_judged (opened s) len a n ≡ Ok g → Granted s len a n g
   write_granted h = go (opened s) refl h
     where
-      facts : opened s ≡ Sound g → len ≡ 4096 * g.pages → good_size n ≡ true → spans (4096 * g.pages) g.base a n ≡ true → Granted s len a n g
+      facts : opened s ≡ Some g → len ≡ 4096 * g.pages → good_size n ≡ true → spans (4096 * g.pages) g.base a n ≡ true → Granted s len a n g
       facts e w t i =
           let b = spanned (4096 * g.pages) g.base a n i in
           let r = size_small n t in
           record { sound = e; whole = w; some = r.0; few = r.1; low = b.0; high = b.1 }
 
-      tests : (k : Geometry) → opened s ≡ Sound k → (x y z : Bool) → eqb len (4096 * k.pages) ≡ x → good_size n ≡ y → spans (4096 * k.pages) k.base a n ≡ z → cond x (cond y (cond z (Accepted k) (Rejected OutsideMemory)) (Rejected WrongWriteSize)) (Rejected BadGeometry) ≡ Accepted g → Granted s len a n g
+      tests : (k : Geometry) → opened s ≡ Some k → (x y z : Bool) → eqb len (4096 * k.pages) ≡ x → good_size n ≡ y → spans (4096 * k.pages) k.base a n ≡ z → cond x (cond y (cond z (Ok k) (Err OutsideMemory)) (Err WrongWriteSize)) (Err BadGeometry) ≡ Ok g → Granted s len a n g
       tests k e true true true ex ey ez q =
           let w : k ≡ g = cc in
-          subst (λ (z : Geometry). opened s ≡ Sound z → len ≡ 4096 * z.pages → spans (4096 * z.pages) z.base a n ≡ true → Granted s len a n g) (sym w)
+          subst (λ (z : Geometry). opened s ≡ Some z → len ≡ 4096 * z.pages → spans (4096 * z.pages) z.base a n ≡ true → Granted s len a n g) (sym w)
           (λ p r i. facts p r ey i) e (eqb-true _ _ ex) ez
       tests k e true true false ex ey ez q = absurd (rejected q)
       tests k e true false z ex ey ez q = absurd (rejected q)
       tests k e false y z ex ey ez q = absurd (rejected q)
 
-      go : (o : Opened) → opened s ≡ o → write_judged o len a n ≡ Accepted g → Granted s len a n g
-      go (Sound k) e q = tests k e (eqb len (4096 * k.pages)) (good_size n) (spans (4096 * k.pages) k.base a n) refl refl refl q
-      go NotAStore e q = absurd (rejected q)
+      go : (o : Option Geometry) → opened s ≡ o → write_judged o len a n ≡ Ok g → Granted s len a n g
+      go (Some k) e q = tests k e (eqb len (4096 * k.pages)) (good_size n) (spans (4096 * k.pages) k.base a n) refl refl refl q
+      go None e q = absurd (rejected q)
 
 abbrev Small : Report → Type 0
 Small r = (r.examined ≤ 16384) × (r.dropped ≤ 16384)

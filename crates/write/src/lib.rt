@@ -6,40 +6,32 @@ ghost use Rattle.bits.specs.Bytes.{le, patch};
 ghost use Rattle.store.specs.Layout.{opened, Fitting};
 ghost use Rattle.write.specs.Write.{good_size, write_judged, noticed_pages, report_pages, write_call};
 
-use answer::Refusal;
+use answer::{Answer, Refusal};
 use block::PAGE;
-use cache::{Judged, Report, ReportAnswer};
-use store::{Geometry, Opened};
+use cache::Report;
+use store::Geometry;
 
 fn good_size(n: u64) -> bool
     ensures { result ≡ good_size n }
 {
-    match n {
-        1 => true,
-        2 => true,
-        4 => true,
-        8 => true,
-        _ => false,
-    }
+    matches!(n, 1 | 2 | 4 | 8)
 }
 
-fn judge_write(store: &[u8], len: usize, address: u64, n: u64) -> Judged
+fn judge_write(store: &[u8], len: usize, address: u64, n: u64) -> Answer<Geometry>
     ensures { result ≡ write_judged (opened store.now) len address n }
 {
-    let Opened::Sound(g) = store::open(store) else {
-        return Judged::Rejected(Refusal::NoStore);
-    };
+    let g = store::open(store).ok_or(Refusal::NoStore)?;
     if len as u64 != PAGE * g.pages {
-        return Judged::Rejected(Refusal::BadGeometry);
+        return Err(Refusal::BadGeometry);
     }
     if good_size(n) {
         if block::spans(PAGE * g.pages, g.base, address, n) {
-            Judged::Accepted(g)
+            Ok(g)
         } else {
-            Judged::Rejected(Refusal::OutsideMemory)
+            Err(Refusal::OutsideMemory)
         }
     } else {
-        Judged::Rejected(Refusal::WrongWriteSize)
+        Err(Refusal::WrongWriteSize)
     }
 }
 
@@ -60,8 +52,8 @@ fn put_low(memory: &mut [u8], at: usize, n: usize, value: u64)
     requires { (n ≤ 8) × (at + n ≤ length memory.old) }
     ensures { memory.new ≡ patch memory.old at (le n value) }
 {
-    let bytes = bits::le_bytes(value);
-    bits::copy_all(&bytes[..n], &mut memory[at..at + n]);
+    let bytes = value.to_le_bytes();
+    memory[at..at + n].copy_from_slice(&bytes[..n]);
 }
 
 // Writes n bytes of the guest's memory, with a notice for each page touched.
@@ -71,15 +63,11 @@ pub fn guest_write(
     address: u64,
     n: u64,
     value: u64,
-) -> ReportAnswer
+) -> Answer<Report>
     ensures { (result, store.new, memory.new) ≡ write_call store.old memory.old address n value }
 {
-    match judge_write(store, memory.len(), address, n) {
-        Judged::Accepted(g) => {
-            let report = notice_pages(store, g, address, address + n - 1);
-            put_low(memory, (address - g.base) as usize, n as usize, value);
-            ReportAnswer::Reported(report)
-        }
-        Judged::Rejected(why) => ReportAnswer::NotReported(why),
-    }
+    let g = judge_write(store, memory.len(), address, n)?;
+    let report = notice_pages(store, g, address, address + n - 1);
+    put_low(memory, (address - g.base) as usize, n as usize, value);
+    Ok(report)
 }

@@ -4,10 +4,11 @@ use borrow.Author.Tests.{lt-ltb, le-ltb, eq-eqb, ne_eqb}
 use Rattle.bits.specs.Bytes.{halfword_at}
 use Rattle.reading.specs.Readings.{reading_of}
 use Rattle.decode.specs.Call.{put_of}
-use Rattle.decode.specs.declared.Put.{Put}
 use Rattle.form.specs.Forming.{or_fallback, op_at}
 use Rattle.form.proofs.Taken.{kept}
 use Rattle.form.proofs.fetch.Goals as goal
+use Rattle.decode.specs.declared.Recorded.{Recorded}
+use Rattle.std.specs.Prelude.{Option}
 
 pub returns-then-s-at : goal.returns-then-s-at
 unfolding op_at
@@ -34,7 +35,7 @@ returns-in_default c =
     let a = c.args in
     let half : eqb (halfword_at a.s.now a.at % 4) 3 ≡ false = ne_eqb (halfword_at a.s.now a.at % 4) 3 (rw c.halfword_at-low.ensures at c.if-low-eq3.false) in
     rw (le-ltb (length a.s.now) (a.at + 2) c.if-s-at.false, half)
-    (ap (λ (p : Put). (p, c.put_halfword.new.lent)) (sym c.in_default.is)
+    (ap (λ (p : Option Recorded). (p, c.put_halfword.new.lent)) (sym c.in_default.is)
     ∙ c.put_halfword.ensures ∙ ap (λ (h : ℕ). put_of ((reading_of a.reading).of_half h) 2 a.place a.at a.lent.now) c.halfword_at-low.ensures)
 
 pub returns : goal.returns

@@ -1,19 +1,19 @@
 -- `form::form` meets its contract: judged first, and then formed from the bytes from the address to the end of its page.
 use Rattle.std.proofs.Common.{◌≡◌, ◌+◌, ◌-◌, ◌%◌, ℕ, List, length, take, drop, sym, ap, ◌∙◌, arith}
-use Rattle.answer.specs.declared.Answer.TheVariants.{Done}
 use Rattle.block.proofs.Places.{GoodMemory, good_memory_lem, held, rest_is}
 use Rattle.reading.specs.Readings.{reading_of}
 use Rattle.form.specs.Forming.{ops_from}
 use Rattle.form.specs.Call.{form_judged, formed_into, form_call}
 use Rattle.form.proofs.Judged.{begun}
 use Rattle.form.proofs.form.Goals as goal
+use Rattle.answer.specs.Answer.{done}
 
 pub returns-in-Done : goal.returns-in-Done
 unfolding form_call
 returns-in-Done c =
     let a = c.args in
     let size = length a.memory.now in
-    let judged : form_judged a.reading size (length a.lent.now) a.base a.address ≡ Done = sym c.judge_form.ensures ∙ c.in-Done.is in
+    let judged : form_judged a.reading size (length a.lent.now) a.base a.address ≡ done = sym c.judge_form.ensures ∙ c.in-Done.is in
     let b = begun a.reading size (length a.lent.now) a.base a.address judged in
     let h = held size a.base a.address b.inner in
     let good : GoodMemory size a.base = good_memory_lem b.good in
@@ -21,7 +21,7 @@ returns-in-Done c =
     let width : from + (4096 - a.address % 4096) - from ≡ 4096 - a.address % 4096 = omega arith in
     let bytes = ap (λ (n : ℕ). take n (drop from a.memory.now)) width ∙ rest_is a.memory.now a.base a.address good.based h.0 (omega arith) in
     rw judged
-    (c.form_rest.ensures ∙ ap (λ (s : List ℕ). formed_into Done a.address (ops_from (reading_of a.reading) s 64 0) a.lent.now) bytes)
+    (c.form_rest.ensures ∙ ap (λ (s : List ℕ). formed_into done a.address (ops_from (reading_of a.reading) s 64 0) a.lent.now) bytes)
 
 pub returns-in-Refused : goal.returns-in-Refused
 unfolding form_call

@@ -3,8 +3,6 @@ use Rattle.std.proofs.Common.{◌≡◌, ◌+◌, ◌-◌, ◌*◌, ◌<◌, ℕ
 use Rattle.block.specs.WellFormed.{jumps}
 use Rattle.op.specs.Reading.{Reading}
 use Rattle.op.specs.Record.{op_fields}
-use Rattle.op.specs.declared.Decoded.{Decoded}
-use Rattle.op.specs.declared.Decoded.TheVariants.{Some}
 use Rattle.reading.specs.Readings.{reading_of}
 use Rattle.form.specs.Forming.{ilen_at, op_at, ops_from}
 use Rattle.form.specs.Written.{Written}
@@ -12,12 +10,14 @@ use Rattle.form.proofs.Kept.{Within, within}
 use Rattle.form.proofs.Taken.{Taking, took, stopped}
 use Rattle.form.proofs.Loop.{ops_full, ops_stop, ops_kept, Left, step, finish}
 use Rattle.form.proofs.form_ops.Goals as goal
+use Rattle.op.specs.declared.Op.{Op}
+use Rattle.std.specs.Prelude.{Option, Some}
 
 -- where a step took an op of ilen bytes
 module _ (r : Reading) (s old lent now : List ℕ) (count at n ilen : ℕ) (t : Taking (op_at r s at) (ilen_at s at) (16 + count * 16) at lent now n ilen) where
   -- it lies within s
   inside : Within s at (Some t.op) ilen
-  inside = subst (Within s at (Some t.op)) t.long (subst (λ (d : Decoded). Within s at d (ilen_at s at)) t.is (within r s at))
+  inside = subst (Within s at (Some t.op)) t.long (subst (λ (d : Option Op). Within s at d (ilen_at s at)) t.is (within r s at))
 
   -- the ops behind it are left, or none where it jumps
   left : count < 64 → Left (ops_from r s 64 0) (ops_from r s (64 - count) at) old lent count at

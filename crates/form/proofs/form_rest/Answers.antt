@@ -1,10 +1,10 @@
 -- `form::form_rest` meets its contract.
 use Rattle.std.proofs.Common.{List, ℕ, sym, ap, ◌∙◌}
-use Rattle.answer.specs.declared.Answer.TheVariants.{Done}
 use Rattle.reading.specs.Readings.{reading_of}
 use Rattle.form.specs.Forming.{ops_from}
 use Rattle.form.proofs.Seal.{refused, sealed}
 use Rattle.form.proofs.form_rest.Goals as goal
+use Rattle.answer.specs.Answer.{done}
 
 pub returns-then-count-eq0 : goal.returns-then-count-eq0
 returns-then-count-eq0 c =
@@ -16,6 +16,6 @@ pub returns : goal.returns
 returns c =
     let a = c.args in
     let ops = c.form_ops-block in
-    ap (λ (s : List ℕ). (Done, s)) c.put_head.ensures
+    ap (λ (s : List ℕ). (done, s)) c.put_head.ensures
     ∙ sealed a.address (ops_from (reading_of a.reading) a.s.now 64 0) a.lent.now ops.new.lent c.fill.new.dst
     ops.result.count ops.result.len c.if-count-eq0.false c.requires.1 ops.ensures c.fill.ensures

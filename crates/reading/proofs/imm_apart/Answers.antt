@@ -3,13 +3,14 @@ use Rattle.std.proofs.Common.{◌≡◌, ℕ, ◌+◌, ◌*◌, ◌<◌, refl, s
 use lib.Dec.{lit<}
 use Rattle.bits.specs.Bits.{bits_at}
 use Rattle.op.specs.declared.AluKind.TheVariants.{SextB, SextH, Rev8, OrcB}
-use Rattle.op.specs.declared.Decoded.{Decoded}
 use Rattle.word.specs.Word.{rust_word}
 use Rattle.manual.specs.Words.{manual_word}
 use Rattle.agree.specs.Differences.{amended, word_entries}
 use Rattle.agree.proofs.Words.{manual-is}
 use Rattle.reading.proofs.Parted.{unary_made, word_key, at_key, imm_alike}
 use Rattle.reading.proofs.imm_apart.Goals as goal
+use Rattle.op.specs.declared.Op.{Op}
+use Rattle.std.specs.Prelude.{Option}
 
 -- the fields of a word in an entry's arm
 fields : (w funct3 : ℕ) → funct3 ≡ bits_at w 12 3 → bits_at w 2 5 ≡ 0x4 → (f3 top : ℕ) → top < 0x1000
@@ -17,7 +18,7 @@ fields : (w funct3 : ℕ) → funct3 ≡ bits_at w 12 3 → bits_at w 2 5 ≡ 0x
     → (bits_at w 0 7 ≡ 0x13) × (bits_at w 12 3 ≡ f3) × (bits_at w 20 12 ≡ top)
 fields w funct3 is op = at_key 0x4 w funct3 (bits_at w 20 12) (bits_at w 20 12) is refl (omega arith) op
 
-says : (w : ℕ) {d : Decoded} → amended word_entries rust_word w ≡ d → d ≡ manual_word w
+says : (w : ℕ) {d : Option Op} → amended word_entries rust_word w ≡ d → d ≡ manual_word w
 says w e = sym e ∙ sym (manual-is w)
 
 pub returns-in-90179 : goal.returns-in-90179

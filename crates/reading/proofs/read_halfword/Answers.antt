@@ -1,11 +1,11 @@
 -- `reading::read_halfword` meets its contract: what the manual reserves has no op, and all else is the Rust's.
 use Rattle.std.proofs.Common.{◌≡◌, ◌&&◌, eqb, ℕ, Bool, true, false, cond, refl}
-use Rattle.op.specs.declared.Decoded.TheVariants.{None}
 use Rattle.halfword.specs.Halfword.{rust_half}
 use Rattle.agree.specs.Differences.{listed, half_entries}
 use Rattle.agree.proofs.Halfwords.{half_is}
 use Rattle.reading.specs.Readings.{rust, manual, reading_of}
 use Rattle.reading.proofs.read_halfword.Goals as goal
+use Rattle.std.specs.Prelude.{None}
 
 reads : (reading raw : ℕ) → (reading_of reading).of_half raw ≡ cond (eqb reading 1 && listed half_entries raw) None (rust_half raw)
 unfolding reading_of

@@ -3,9 +3,9 @@ use Rattle.std.proofs.Common.{◌≡◌, ℕ, ◌+◌, ◌*◌, Bool, sym, ap, �
 use Rattle.bits.proofs.Tests.{true_false}
 use Rattle.store.specs.Layout.{sized, store_len}
 use Rattle.store.specs.declared.Geometry.{Geometry}
-use Rattle.store.specs.declared.Opened.TheVariants.{Sound}
 use Rattle.store.proofs.Known.{unread, unread_is, unread_says, opened-sound, opened-not, signature-is}
 use Rattle.store.proofs.open.Goals as goal
+use Rattle.std.specs.Prelude.{Some}
 
 abbrev expected : Geometry → ℕ
 expected g = 0x1_0043_4256 + g.e * 0x1_0000_0000_0000
@@ -28,7 +28,7 @@ pub returns-then-store-store_len : goal.returns-then-store-store_len
 returns-then-store-store_len c =
     let same = c.stated-g.ensures.0 in
     let test : unread c.first_number-first.result ≡ expected c.stated-g.result = omega arith in
-    ap Sound same
+    ap Some same
     ∙ sym (opened-sound c.args.store.now (record {
       long = omega arith;
       signed = unread_says c.args.store.now (λ i. omega (arith, c.type_inv.store i)) (ap unread (sym c.first_number-first.ensures) ∙ test ∙ ap expected same);
