@@ -4,7 +4,7 @@ use Rattle.std.proofs.Common.{◌≡◌, ℕ, zero, suc, ◌+◌, ◌*◌, ◌/�
 use lib.Arith.{digits_lt}
 use lib.Bits.{bit_and, bit_or, and_mask, or_shifted, or_shifted_r}
 use Rattle.bits.specs.Bits.{bits_at}
-use Rattle.alu.specs.Rust.{spread, orced}
+use Rattle.alu.specs.Rust.{swapped, spread, orced}
 
 pub byte_lt : (x k : ℕ) → bits_at x (k * 8) 8 < 2 ^ 8
 byte_lt x k = mod-lt (x / 2 ^ (k * 8)) (lit< tt)
@@ -14,6 +14,11 @@ pow8 n = ap (λ (m : ℕ). 2 ^ m) e ∙ pow-add 2 (n * 8) 8
   where
     e : suc n * 8 ≡ n * 8 + 8
     e = omega arith
+
+pub swapped-lt : (x n : ℕ) → swapped x n < 2 ^ (n * 8)
+unfolding swapped
+swapped-lt x zero = lit< tt
+swapped-lt x (suc n) = subst (λ (m : ℕ). swapped x n * 2 ^ 8 + bits_at x (n * 8) 8 < m) (sym (pow8 n)) (digits_lt (swapped-lt x n) (byte_lt x n))
 
 spread-lt : (byte : ℕ) → spread byte < 2 ^ 8
 spread-lt byte = by (eqb byte 0)
