@@ -6,6 +6,10 @@ use Rattle.answer.specs.Answer.{Answer}
 use Rattle.cache.specs.declared.Hit.{Hit}
 use Rattle.cache.specs.declared.Report.{Report}
 
+-- the answer of a lookup that hits: the part's place, and its length
+abbrev pub hit_at : ℕ → ℕ → Answer Hit
+hit_at at len = Ok (record { at = at; len = len })
+
 -- where in the store the part begins
 abbrev pub lookup_value : Answer Hit → ℕ
 lookup_value (Ok hit) = hit.at

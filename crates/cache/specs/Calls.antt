@@ -7,7 +7,7 @@ use Rattle.store.specs.Layout.{header_len, header, in_bounds, front, store_len, 
 use Rattle.store.specs.Places.{page_bit, with_bit, place_for, emptied, each_place, places_in, blank}
 use Rattle.store.specs.declared.Geometry.{Geometry}
 use Rattle.answer.specs.declared.Refusal.TheVariants.{NoStore, BadGeometry, OutsideMemory, IllFormed, WrongBuffer, NothingFound}
-use Rattle.cache.specs.Answers.{nothing_done}
+use Rattle.cache.specs.Answers.{nothing_done, hit_at}
 use Rattle.cache.specs.declared.Report.{Report}
 use Rattle.answer.specs.Answer.{Answer, done}
 use Rattle.cache.specs.declared.Hit.{Hit}
@@ -32,7 +32,7 @@ place_of g a = place_at g (slot_of g a)
 
 abbrev pub lookup_by : Option Geometry → List ℕ → ℕ → Answer Hit
 lookup_by (Some g) s a =
-    cond (holds g a && eqb (doubleword_at s (place_of g a)) a) (Ok (record { at = place_of g a; len = g.stride })) (Err NothingFound)
+    cond (holds g a && eqb (doubleword_at s (place_of g a)) a) (hit_at (place_of g a) g.stride) (Err NothingFound)
 lookup_by None s a = Err NoStore
 
 abbrev pub lookup_call : List ℕ → ℕ → Answer Hit

@@ -16,7 +16,7 @@ use Rattle.bits.proofs.Tests.{or_right}
 use Rattle.answer.specs.declared.Refusal.{Refusal}
 use Rattle.store.specs.Layout.{slot_of}
 use Rattle.store.specs.declared.Geometry.{Geometry}
-use Rattle.cache.specs.Answers.{lookup_number, reported}
+use Rattle.cache.specs.Answers.{reported}
 use Rattle.cache.specs.Calls.{report_in, summed, notice_by, notice_call}
 use Rattle.cache.specs.declared.Report.{Report}
 use Rattle.notices.specs.Notices.{notices_call}
@@ -33,8 +33,8 @@ use Rattle.guarantee.proofs.Simulation.{first_of, in_page_lem, notice-reports}
 use Rattle.guarantee.proofs.Lookup.{lookup-is}
 use Rattle.guarantee.proofs.Run.{write_own}
 use Rattle.guarantee.proofs.Guarantee.{stands, notice_answers}
-use Rattle.answer.specs.Answer.{Answer}
-use Rattle.std.specs.Prelude.{Option, Some, Ok, Err}
+use Rattle.answer.specs.Answer.{Answer, answer_number}
+use Rattle.std.specs.Prelude.{Option as Maybe, Some, Ok, Err}
 
 abbrev dropped_of : Answer Report → ℕ
 dropped_of answer = (reported answer).dropped
@@ -101,7 +101,7 @@ module _ (g : Geometry) (h : List Event) (s : List ℕ) (y : Stands g h s) where
   live-hits : (p : ℕ) → live g h p ≡ hits_in s p
   live-hits p = count_same 4096 _ _ (λ k c. rw (lookup-is g h s y (first_of p + k)) (go (first_of p + k) (shown (slot_of g) page_of h (first_of p + k))))
     where
-      go : (a : ℕ) (o : Option (List ℕ)) → anything o ≡ eqb (lookup_number (lookup_answered g a o)) 0
+      go : (a : ℕ) (o : Option (List ℕ)) → anything o ≡ eqb (answer_number (lookup_answered g a o)) 0
       go a (some r) = refl
       go a none = refl
 
@@ -122,7 +122,7 @@ module _ (g : Geometry) (h : List Event) (s : List ℕ) (y : Stands g h s) where
     where
       go : (t : Bool) → names rest (page_of a) ≡ t → (report_once s rest).dropped ≡ hits_over s rest → (report_once s (a ∷ rest)).dropped ≡ hits_over s (a ∷ rest)
       go true n ih = rw n ih
-      go false n ih = rw n (ap₂ ◌+◌ (ap (λ (o : Option Geometry). dropped_of (notice_by o s a).0) y.sound ∙ notice_drops a) ih)
+      go false n ih = rw n (ap₂ ◌+◌ (ap (λ (o : Maybe Geometry). dropped_of (notice_by o s a).0) y.sound ∙ notice_drops a) ih)
 
   write_drops : (m : List ℕ) (a n v : ℕ) (r : Report) → (write_call s m a n v).0 ≡ Ok r → r.dropped ≡ hits_across s a (a + n - 1)
   write_drops m a n v r q = go (write_judged (Some g) (length m) a n) refl (rw y.sound at q)

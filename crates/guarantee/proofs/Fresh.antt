@@ -19,7 +19,6 @@ use Rattle.store.specs.Layout.{holds, slot_of, Bounded}
 use Rattle.store.specs.Places.{record_in}
 use Rattle.store.specs.declared.Geometry.{Geometry}
 use Rattle.store.proofs.Known.{holds_are}
-use Rattle.cache.specs.Answers.{lookup_number}
 use Rattle.cache.specs.Calls.{make_judged, lookup_call}
 use Rattle.cache.proofs.Checks.{opened-fits}
 use Rattle.write.specs.Write.{write_judged, write_call}
@@ -33,7 +32,7 @@ use Rattle.guarantee.specs.Honest.{Former, Local, Fresh, Honest}
 use Rattle.guarantee.proofs.Simulation.{fits-accepted}
 use Rattle.guarantee.proofs.Run.{write_own, kept}
 use Rattle.guarantee.proofs.Guarantee.{hit_shown}
-use Rattle.answer.specs.Answer.{Answer}
+use Rattle.answer.specs.Answer.{Answer, answer_number}
 use Rattle.std.specs.Prelude.{Some, Ok, Err}
 
 in_order : (x y : ℕ) → x ≤ y → x / 4096 ≤ y / 4096
@@ -96,7 +95,7 @@ cross_apart g h x y a r k = go (eqb (page_of x) (page_of y)) refl
 
 module _ (form : Former) where
   abbrev Held : Geometry → List ℕ → Event → Type 0
-  Held g m = OfInserted (λ a r. form g m a ≡ (done, r))
+  Held g m = OfInserted (λ a r. form g m a ≡ (Ok tt, r))
 
   -- events whose insertions held what forms from this memory
   events_fresh : (g : Geometry) (h : List Event) (m : List ℕ) → Fresh form (since g h) m → (new : List Event) → Every (Held g m) new → Fresh form (since g (new ++ h)) m
@@ -104,10 +103,10 @@ module _ (form : Former) where
   events_fresh g h m i [] none_left a r e = i a r e
   events_fresh g h m i (inserted b rec ∷ new) (and_then f l) a r e = go (events_fresh g h m i new l a r) (eqb b a) refl (eqb (slot_of g b) (slot_of g a)) e
     where
-      go : (shown (slot_of g) page_of (new ++ h) a ≡ some r → form g m a ≡ (done, r)) → (t : Bool) → eqb b a ≡ t → (u : Bool) → cond t (some rec) (cond u none (shown (slot_of g) page_of (new ++ h) a)) ≡ some r → form g m a ≡ (done, r)
+      go : (shown (slot_of g) page_of (new ++ h) a ≡ some r → form g m a ≡ (Ok tt, r)) → (t : Bool) → eqb b a ≡ t → (u : Bool) → cond t (some rec) (cond u none (shown (slot_of g) page_of (new ++ h) a)) ≡ some r → form g m a ≡ (Ok tt, r)
       go ih true q u k =
           let same : rec ≡ r = cc in
-          ap (form g m) (sym (eqb-true b a q)) ∙ f ∙ ap (λ (x : List ℕ). (done, x)) same
+          ap (form g m) (sym (eqb-true b a q)) ∙ f ∙ ap (λ (x : List ℕ). (Ok tt, x)) same
       go ih false q true k = no_some r k
       go ih false q false k = ih k
   events_fresh g h m i (touched p ∷ new) (and_then f l) a r e = events_fresh g h m i new l a r (touch_apart g (new ++ h) p a r e).1
@@ -163,5 +162,5 @@ module _ (form : Former) where
 
       -- where a lookup's number is 0, what forms now is the record that the returned part shows
       pub never_stale : (calls : List Call) → Honest form p calls l → (g : Geometry) (h : List Event) → past_of p calls l ≡ since g h
-          → (a : ℕ) → lookup_number (lookup_call (run calls l).store a) ≡ 0 → form g (run calls l).memory a ≡ (done, record_in g (looked_up (run calls l) a))
+          → (a : ℕ) → answer_number (lookup_call (run calls l).store a) ≡ 0 → form g (run calls l).memory a ≡ (Ok tt, record_in g (looked_up (run calls l) a))
       never_stale calls o g h is a e = subst (λ (z : Past). Fresh form z (run calls l).memory) is (fresh calls o) a _ (hit_shown p l start calls g h is a e)

@@ -11,7 +11,7 @@ use Rattle.bits.proofs.Tests.{not_true}
 use Rattle.store.specs.Layout.{slot_of}
 use Rattle.store.specs.Places.{record_in}
 use Rattle.store.specs.declared.Geometry.{Geometry}
-use Rattle.cache.specs.Answers.{lookup_number, nothing_done, reported}
+use Rattle.cache.specs.Answers.{nothing_done, reported}
 use Rattle.cache.specs.Calls.{make_judged, make_by, make_call, lookup_call, insert_judged, insert_by, insert_call, notice_call, flush_call, generation_call}
 use Rattle.notices.specs.Notices.{notices_call}
 use Rattle.write.specs.Write.{write_judged, write_call}
@@ -24,9 +24,9 @@ use Rattle.guarantee.specs.Answers.{lookup_answered, part_for, report, reports, 
 use Rattle.guarantee.proofs.Simulation.{fits-accepted, unmarked_drops, notice-reports, notices-reports, write-reports}
 use Rattle.guarantee.proofs.Lookup.{lookup-is, lookup_returns}
 use Rattle.guarantee.proofs.Run.{write_own, kept}
-use Rattle.answer.specs.Answer.{Answer}
+use Rattle.answer.specs.Answer.{Answer, answer_number}
 use Rattle.cache.specs.declared.Report.{Report}
-use Rattle.std.specs.Prelude.{Option, Some, Ok, Err}
+use Rattle.std.specs.Prelude.{Some, Ok, Err}
 
 -- a write in a store that stands for a past
 pub write-is : (g : Geometry) (h : List Event) (s : List ℕ) → Stands g h s → (m : List ℕ) (a n v : ℕ) → (write_call s m a n v).0 ≡ write_answered (write_judged (Some g) (length m) a n) (reports g h (events (length m) g (write a n v)))
@@ -51,23 +51,23 @@ module _ (p : Past) (l : Lent) (start : Follows p l.store) (calls : List Call) (
   hits a = lookup_returns g h (run calls l).store stands a
 
   -- where the past shows a record the number is 0 and the part shows that record; and the other way round
-  shown_hit : (a : ℕ) (r : List ℕ) → shown (slot_of g) page_of h a ≡ some r → (lookup_number (lookup_call (run calls l).store a) ≡ 0) × (record_in g (looked_up (run calls l) a) ≡ r)
+  shown_hit : (a : ℕ) (r : List ℕ) → shown (slot_of g) page_of h a ≡ some r → (answer_number (lookup_call (run calls l).store a) ≡ 0) × (record_in g (looked_up (run calls l) a) ≡ r)
   shown_hit a r e =
       let fits = fits-accepted g (run calls l).store stands.sound a r (shown_was (slot_of g) page_of (Possible g) h stands.accepted a r e) in
-      (ap lookup_number (lookup_answers a ∙ ap (lookup_answered g a) e), ap (record_in g) (hits a ∙ ap (part_for g) e) ∙ fits.back)
+      (ap answer_number (lookup_answers a ∙ ap (lookup_answered g a) e), ap (record_in g) (hits a ∙ ap (part_for g) e) ∙ fits.back)
 
-  pub hit_shown : (a : ℕ) → lookup_number (lookup_call (run calls l).store a) ≡ 0 → shown (slot_of g) page_of h a ≡ some (record_in g (looked_up (run calls l) a))
-  hit_shown a e = go (shown (slot_of g) page_of h a) refl (ap lookup_number (sym (lookup_answers a)) ∙ e)
+  pub hit_shown : (a : ℕ) → answer_number (lookup_call (run calls l).store a) ≡ 0 → shown (slot_of g) page_of h a ≡ some (record_in g (looked_up (run calls l) a))
+  hit_shown a e = go (shown (slot_of g) page_of h a) refl (ap answer_number (sym (lookup_answers a)) ∙ e)
     where
-      go : (o : Option (List ℕ)) → shown (slot_of g) page_of h a ≡ o → lookup_number (lookup_answered g a o) ≡ 0 → o ≡ some (record_in g (looked_up (run calls l) a))
+      go : (o : Option (List ℕ)) → shown (slot_of g) page_of h a ≡ o → answer_number (lookup_answered g a o) ≡ 0 → o ≡ some (record_in g (looked_up (run calls l) a))
       go (some r) k z = ap some (sym (shown_hit a r k).1)
       go none k z = absurd (omega (arith, z))
 
   -- in one sentence (docs/FORMATS.md, Hits): a lookup hits exactly when its address had an accepted insertion, and since came none in its slot, no notice or write in its page, and no flush; and it shows that record
-  pub hit_lives : (a : ℕ) → lookup_number (lookup_call (run calls l).store a) ≡ 0 → Lives (slot_of g) page_of h a (record_in g (looked_up (run calls l) a))
+  pub hit_lives : (a : ℕ) → answer_number (lookup_call (run calls l).store a) ≡ 0 → Lives (slot_of g) page_of h a (record_in g (looked_up (run calls l) a))
   hit_lives a e = shown_lives (slot_of g) page_of h a _ (hit_shown a e)
 
-  pub lives_hit : (a : ℕ) (r : List ℕ) → Lives (slot_of g) page_of h a r → (lookup_number (lookup_call (run calls l).store a) ≡ 0) × (record_in g (looked_up (run calls l) a) ≡ r)
+  pub lives_hit : (a : ℕ) (r : List ℕ) → Lives (slot_of g) page_of h a r → (answer_number (lookup_call (run calls l).store a) ≡ 0) × (record_in g (looked_up (run calls l) a) ≡ r)
   lives_hit a r e = shown_hit a r (lives_shown (slot_of g) page_of h a r e)
 
   -- which calls are accepted, and what notices and writes report
@@ -100,7 +100,7 @@ module _ (p : Past) (l : Lent) (start : Follows p l.store) (calls : List Call) (
       let m = not_true (marked (slot_of g) page_of h (page_of a)) (λ e. n (marked-is (slot_of g) page_of h (page_of a) e)) in
       notice_answers a ∙ rw (m, unmarked_drops g h (run calls l).store stands a m)
 
-  pub flush_answers : (flush_call (run calls l).store).0 ≡ done
+  pub flush_answers : (flush_call (run calls l).store).0 ≡ Ok tt
   flush_answers = rw stands.sound
 
   pub generation_answers : generation_call (run calls l).store ≡ Ok ((insertions h + 1) % 2 ^ 64)

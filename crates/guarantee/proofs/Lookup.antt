@@ -15,7 +15,7 @@ use Rattle.store.specs.declared.Geometry.{Geometry}
 use Rattle.store.proofs.Known.{holds_are, slot_lt}
 use Rattle.store.proofs.Places.{empty_address}
 use Rattle.cache.specs.Calls.{place_of, lookup_call}
-use Rattle.cache.specs.Answers.{lookup_part}
+use Rattle.cache.specs.Answers.{lookup_part, hit_at}
 use Rattle.answer.specs.declared.Refusal.TheVariants.{NothingFound}
 use Rattle.cache.proofs.Checks.{opened-fits}
 use Rattle.history.specs.History.{Event, shown}
@@ -26,7 +26,7 @@ use Rattle.guarantee.specs.Answers.{lookup_answered, part_for}
 use Rattle.guarantee.proofs.Simulation.{bytes_of, Fitted, fitted, place_is}
 use Rattle.answer.specs.Answer.{Answer}
 use Rattle.cache.specs.declared.Hit.{Hit}
-use Rattle.std.specs.Prelude.{Option, Err}
+use Rattle.std.specs.Prelude.{Ok, Err}
 
 module _ (g : Geometry) (h : List Event) (s : List ℕ) (y : Stands g h s) (a : ℕ) where
   bounds : Bounded g
@@ -34,7 +34,7 @@ module _ (g : Geometry) (h : List Event) (s : List ℕ) (y : Stands g h s) (a : 
 
   -- the answer, by the address that the place holds
   answer : ℕ → Answer Hit
-  answer b = cond (holds g a && eqb b a) (Ok (record { at = place_of g a; len = g.stride })) (Err NothingFound)
+  answer b = cond (holds g a && eqb b a) (hit_at (place_of g a) g.stride) (Err NothingFound)
 
   nothing_empty : (t : Bool) → holds g a ≡ t → (t && eqb 0xFFFF_FFFF_FFFF_FFFF a) ≡ false
   nothing_empty true e = ne_eqb 0xFFFF_FFFF_FFFF_FFFF a (λ q. omega (arith, holds_are g a e, bounds.below))
@@ -45,11 +45,11 @@ module _ (g : Geometry) (h : List Event) (s : List ℕ) (y : Stands g h s) (a : 
   by_place empty w = rw (empty_address g.stride, nothing_empty (holds g a) refl)
   by_place (full b r) w = rw w.named (go (eqb b a) refl)
     where
-      go : (t : Bool) → eqb b a ≡ t → cond (holds g a && t) (Ok (record { at = place_of g a; len = g.stride })) (Err NothingFound) ≡ lookup_answered g a (cond t (some r) none)
+      go : (t : Bool) → eqb b a ≡ t → cond (holds g a && t) (hit_at (place_of g a) g.stride) (Err NothingFound) ≡ lookup_answered g a (cond t (some r) none)
       go true q = rw (ap (holds g) (sym (eqb-true b a q)) ∙ w.able)
       go false q = none_shown (holds g a)
         where
-          none_shown : (t : Bool) → cond (t && false) (Ok (record { at = place_of g a; len = g.stride })) (Err NothingFound) ≡ Err NothingFound
+          none_shown : (t : Bool) → cond (t && false) (hit_at (place_of g a) g.stride) (Err NothingFound) ≡ Err NothingFound
           none_shown true = refl
           none_shown false = refl
 

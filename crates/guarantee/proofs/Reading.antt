@@ -17,7 +17,6 @@ use Rattle.form.proofs.FormedWell.{reading_proper, formed_well}
 use Rattle.store.specs.Layout.{stated, holds}
 use Rattle.store.specs.Places.{record_in}
 use Rattle.store.specs.declared.Geometry.{Geometry}
-use Rattle.cache.specs.Answers.{lookup_number}
 use Rattle.store.proofs.Known.{opened_says}
 use Rattle.cache.specs.Calls.{lookup_call, insert_judged, insert_call}
 use Rattle.history.specs.History.{Event}
@@ -29,7 +28,7 @@ use Rattle.guarantee.specs.Answers.{answered}
 use Rattle.guarantee.proofs.Run.{kept}
 use Rattle.guarantee.proofs.Guarantee.{stands, insert_answers}
 use Rattle.guarantee.proofs.Fresh.{never_stale}
-use Rattle.answer.specs.Answer.{done}
+use Rattle.answer.specs.Answer.{done, answer_number}
 use Rattle.std.specs.Prelude.{Some, Ok}
 
 form_local : (reading : ℕ) (lent m other : List ℕ) (base a : ℕ) → length m ≡ length other → page_bytes m base a ≡ page_bytes other base a → form_call reading m base a lent ≡ form_call reading other base a lent
@@ -41,7 +40,7 @@ forming_local lent g m other a long same = form_local _ lent m other g.base a lo
 
 -- never stale, of the Form call itself, in the store's reading
 pub never_stale_formed : (lent : List ℕ) (p : Past) (l : Lent) → Follows p l.store → Fresh (forming lent) p l.memory → (calls : List Call) → Honest (forming lent) p calls l → (g : Geometry) (h : List Event) → past_of p calls l ≡ since g h
-    → (a : ℕ) → lookup_number (lookup_call (run calls l).store a) ≡ 0 → form_call g.reading (run calls l).memory g.base a lent ≡ (done, record_in g (looked_up (run calls l) a))
+    → (a : ℕ) → answer_number (lookup_call (run calls l).store a) ≡ 0 → form_call g.reading (run calls l).memory g.base a lent ≡ (Ok tt, record_in g (looked_up (run calls l) a))
 never_stale_formed lent = never_stale (forming lent) (forming_local lent)
 
 -- the premise can be met: from a memory of bytes, as long as the store says, Form gives what Insert accepts, in every reading and so in the store's own

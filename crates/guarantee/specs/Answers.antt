@@ -6,7 +6,7 @@ use Rattle.answer.specs.declared.Refusal.TheVariants.{NothingFound}
 use Rattle.store.specs.Layout.{slot_of}
 use Rattle.store.specs.Places.{place_for}
 use Rattle.store.specs.declared.Geometry.{Geometry}
-use Rattle.cache.specs.Answers.{nothing_done}
+use Rattle.cache.specs.Answers.{nothing_done, hit_at}
 use Rattle.cache.specs.Calls.{make_judged, place_of, summed}
 use Rattle.cache.specs.declared.Report.{Report}
 use Rattle.history.specs.History.{Event, inserted, touched, flushed, examined, hits_from, total}
@@ -17,7 +17,7 @@ use Rattle.cache.specs.declared.Hit.{Hit}
 
 -- a lookup, by the record that the past shows: its slot's place, or nothing found
 abbrev pub lookup_answered : Geometry → ℕ → Option (List ℕ) → Answer Hit
-lookup_answered g a (some r) = Ok (record { at = place_of g a; len = g.stride })
+lookup_answered g a (some r) = hit_at (place_of g a) g.stride
 lookup_answered g a none = Err NothingFound
 
 -- and the part of the store that it returns

@@ -1,6 +1,6 @@
 -- The premise of "Never stale" (docs/FORMATS.md): each accepted insertion held the block formed from the bytes then present; and what a store shows is what forms now.
 -- Assumes nothing.
-use Rattle.std.specs.Prelude.{ℕ, ◌≡◌, List, [], ◌∷◌, length}
+use Rattle.std.specs.Prelude.{ℕ, ◌≡◌, List, [], ◌∷◌, length, Ok}
 use Rattle.std.proofs.Math.Option.{some}
 use Rattle.block.specs.Memory.{page_bytes}
 use Rattle.form.specs.Call.{form_call}
@@ -27,12 +27,12 @@ module _ (form : Former) where
   -- what a past shows is what forms from this memory
   abbrev pub Fresh : Past → List ℕ → Type 0
   Fresh unmade m = Unit {0}
-  Fresh (since g h) m = (a : ℕ) (r : List ℕ) → shown (slot_of g) page_of h a ≡ some r → form g m a ≡ (done, r)
+  Fresh (since g h) m = (a : ℕ) (r : List ℕ) → shown (slot_of g) page_of h a ≡ some r → form g m a ≡ (Ok tt, r)
 
   -- each accepted insertion of a list of calls held what formed from the memory that the calls before it left
   unfoldable pub Honest : Past → List Call → Lent → Type 0
   Honest p [] l = Unit {0}
   Honest p (make reading e base pages ∷ calls) l = Honest p calls l
   Honest p (uses c ∷ calls) l =
-      ((g : Geometry) (h : List Event) → past_of p calls l ≡ since g h → Every (OfInserted (λ a r. form g (run calls l).memory a ≡ (done, r))) (events (length l.memory) g c))
+      ((g : Geometry) (h : List Event) → past_of p calls l ≡ since g h → Every (OfInserted (λ a r. form g (run calls l).memory a ≡ (Ok tt, r))) (events (length l.memory) g c))
       × Honest p calls l
