@@ -1,2 +1,1 @@
--- Laws that the functions of the door share.
-pub mod Passed
+-- Nothing is left to show: every function proves without a file.

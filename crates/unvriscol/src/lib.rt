@@ -33,23 +33,28 @@ pub struct NumberedReport {
     pub dropped: u64,
 }
 
-fn numbered(answer: Answer<u64>) -> Numbered
-    ensures { (result.number, result.value) ≡ both answer_number answer_value answer }
-{
-    let number = answer::number(&answer);
-    let value = answer::value(answer);
-    Numbered { number, value }
+impl From<Answer<u64>> for Numbered {
+    ghost from_gives = { λ answer it. (it.number, it.value) ≡ both answer_number answer_value answer };
+
+    fn from(answer: Answer<u64>) -> Numbered {
+        Numbered {
+            number: answer::number(&answer),
+            value: answer::value(answer),
+        }
+    }
 }
 
-fn report_seen(answer: Answer<Report>) -> NumberedReport
-    ensures { (result.number, result.examined, result.dropped) ≡ report_seen answer }
-{
-    let number = answer::number(&answer);
-    let report = answer.unwrap_or(Report::nothing());
-    NumberedReport {
-        number,
-        examined: report.examined,
-        dropped: report.dropped,
+impl From<Answer<Report>> for NumberedReport {
+    ghost from_gives = { λ answer it. (it.number, it.examined, it.dropped) ≡ report_seen answer };
+
+    fn from(answer: Answer<Report>) -> NumberedReport {
+        let number = answer::number(&answer);
+        let report = answer.unwrap_or(Report::nothing());
+        NumberedReport {
+            number,
+            examined: report.examined,
+            dropped: report.dropped,
+        }
     }
 }
 
@@ -74,7 +79,7 @@ pub extern "C" fn uv_decode_halfword(reading: u64, raw: u16, lent: &mut [u8]) ->
 pub extern "C" fn uv_alu(kind: u64, lhs: u64, rhs: u64) -> Numbered
     ensures { (result.number, result.value) ≡ both answer_number answer_value (alu_call kind lhs rhs) }
 {
-    numbered(alu::alu_call(kind, lhs, rhs))
+    alu::alu_call(kind, lhs, rhs).into()
 }
 
 // Forms the block at an address of guest memory into the lent block record.
@@ -104,7 +109,7 @@ pub extern "C" fn uv_make(store: &mut [u8], reading: u64, e: u64, base: u64, pag
 pub extern "C" fn uv_lookup(store: &[u8], address: u64) -> Numbered
     ensures { (result.number, result.value) ≡ both answer_number lookup_value (lookup_call store.now address) }
 {
-    numbered(cache::find(store, address).map(|hit| hit.at as u64))
+    cache::find(store, address).map(|hit| hit.at as u64).into()
 }
 
 // Inserts the block record into the place of its address's slot.
@@ -120,8 +125,7 @@ pub extern "C" fn uv_insert(store: &mut [u8], address: u64, lent: &[u8]) -> u64
 pub extern "C" fn uv_notice(store: &mut [u8], address: u64) -> NumberedReport
     ensures { ((result.number, result.examined, result.dropped), store.new) ≡ seen report_seen (notice_call store.old address) }
 {
-    answer::number(&cache::notice(store, address);
-    report_seen(answer)
+    cache::notice(store, address).into()
 }
 
 // Notices writes that were done at the addresses of the list.
@@ -129,7 +133,7 @@ pub extern "C" fn uv_notice(store: &mut [u8], address: u64) -> NumberedReport
 pub extern "C" fn uv_notices(store: &mut [u8], addresses: &[u64]) -> NumberedReport
     ensures { ((result.number, result.examined, result.dropped), store.new) ≡ seen report_seen (notices_call store.old addresses.now) }
 {
-    report_seen(notices::notices(store, addresses))
+    notices::notices(store, addresses).into()
 }
 
 // Empties the cache.
@@ -137,7 +141,7 @@ pub extern "C" fn uv_notices(store: &mut [u8], addresses: &[u64]) -> NumberedRep
 pub extern "C" fn uv_flush(store: &mut [u8]) -> u64
     ensures { (result, store.new) ≡ seen answer_number (flush_call store.old) }
 {
-    report_seen(cache::flush(store))
+    answer::number(&cache::flush(store))
 }
 
 // The value is the store's generation.
@@ -145,7 +149,7 @@ pub extern "C" fn uv_flush(store: &mut [u8]) -> u64
 pub extern "C" fn uv_generation(store: &[u8]) -> Numbered
     ensures { (result.number, result.value) ≡ both answer_number answer_value (generation_call store.now) }
 {
-    numbered(cache::generation(store))
+    cache::generation(store).into()
 }
 
 // Writes the low bytes of the value to guest memory, with a notice for each page touched.
@@ -159,5 +163,5 @@ pub extern "C" fn uv_guest_write(
 ) -> NumberedReport
     ensures { ((result.number, result.examined, result.dropped), store.new, memory.new) ≡ seen_with_two report_seen (write_call store.old memory.old address size value) }
 {
-    let answer = write::guest_write(store, memory, address, size, value))
+    write::guest_write(store, memory, address, size, value).into()
 }
