@@ -7,6 +7,7 @@ use Prim.Native.Nat.{ℕ, ◌+◌, ◌*◌, ◌^◌}
 use native.Mathlib.Omega.{arith}
 use lib.Dec.{T, eqb, eqb→eq}
 use lib.ListN.{get_or}
+use Rattle.std.specs.Prelude.{Option, Some, None, option_map}
 use Rattle.bits.specs.Bits.{bits_at, signed}
 use Rattle.bits.specs.Match.{◌⇒◌, case}
 use Rattle.bits.proofs.Every.{both}
@@ -19,25 +20,25 @@ use Rattle.op.proofs.Numbers.{alu_positions, load_positions, store_positions, br
 use Rattle.word.specs.Instruction as rust
 use Rattle.word.specs.Word as rust-word
 use Rattle.word.specs.declared.Form.{Form}
-use Rattle.word.specs.declared.Form.TheVariants.{NoForm, Lui, Auipc, Jal, Jalr, Branch, Load, Store, Imm, Shift6, Shift5, Unary, Reg}
+use Rattle.word.specs.declared.Form.TheVariants.{Lui, Auipc, Jal, Jalr, Branch, Load, Store, Imm, Shift6, Shift5, Unary, Reg}
 use Rattle.manual.specs.Words as manual
 use Rattle.manual.specs.Words.{Format, NoRow, LUI, AUIPC, JAL, JALR, B, L, S, I, I6, I5, I0, R}
 
 -- the Rust's forms in the manual's names
-abbrev pub named : Form → Format
-named NoForm = NoRow
-named Lui = LUI
-named Auipc = AUIPC
-named Jal = JAL
-named Jalr = JALR
-named (Branch k) = B k
-named (Load k) = L k
-named (Store k) = S k
-named (Imm k) = I k
-named (Shift6 k) = I6 k
-named (Shift5 k) = I5 k
-named (Unary k) = I0 k
-named (Reg k) = R k
+abbrev pub named : Option Form → Format
+named None = NoRow
+named (Some Lui) = LUI
+named (Some Auipc) = AUIPC
+named (Some Jal) = JAL
+named (Some Jalr) = JALR
+named (Some (Branch k)) = B k
+named (Some (Load k)) = L k
+named (Some (Store k)) = S k
+named (Some (Imm k)) = I k
+named (Some (Shift6 k)) = I6 k
+named (Some (Shift5 k)) = I5 k
+named (Some (Unary k)) = I0 k
+named (Some (Reg k)) = R k
 
 -- the manual's figures give the Rust's sums
 imm_i_lem : (w : ℕ) → rust.imm_i w ≡ signed 12 (manual.imm_i w)
@@ -56,20 +57,20 @@ imm_j_lem : (w : ℕ) → rust.imm_j w ≡ signed 21 (manual.imm_j w)
 imm_j_lem w = let e : bits_at w 31 1 * 2 ^ 20 + bits_at w 12 8 * 2 ^ 12 + bits_at w 20 1 * 2 ^ 11 + bits_at w 21 10 * 2 ≡ manual.imm_j w = omega arith in ap (signed 21) e
 
 -- the two readings of the operands are one
-pub operands : (w : ℕ) (f : Form) → rust-word.op_of w f ≡ manual.op_of w (named f)
-operands w NoForm = refl
-operands w Lui = rw (imm_u_lem w)
-operands w Auipc = rw (imm_u_lem w)
-operands w Jal = rw (imm_j_lem w)
-operands w Jalr = rw (imm_i_lem w)
-operands w (Branch k) = rw (imm_b_lem w)
-operands w (Load k) = rw (imm_i_lem w)
-operands w (Store k) = rw (imm_s_lem w)
-operands w (Imm k) = rw (imm_i_lem w)
-operands w (Shift6 k) = refl
-operands w (Shift5 k) = refl
-operands w (Unary k) = refl
-operands w (Reg k) = refl
+pub operands : (w : ℕ) (f : Option Form) → option_map (rust-word.op_of w) f ≡ manual.op_of w (named f)
+operands w None = refl
+operands w (Some Lui) = rw (imm_u_lem w)
+operands w (Some Auipc) = rw (imm_u_lem w)
+operands w (Some Jal) = rw (imm_j_lem w)
+operands w (Some Jalr) = rw (imm_i_lem w)
+operands w (Some (Branch k)) = rw (imm_b_lem w)
+operands w (Some (Load k)) = rw (imm_i_lem w)
+operands w (Some (Store k)) = rw (imm_s_lem w)
+operands w (Some (Imm k)) = rw (imm_i_lem w)
+operands w (Some (Shift6 k)) = refl
+operands w (Some (Shift5 k)) = refl
+operands w (Some (Unary k)) = refl
+operands w (Some (Reg k)) = refl
 
 -- a format is known by two numbers
 abbrev shape : Format → ℕ

@@ -7,6 +7,7 @@ use native.Mathlib.Nat.{div-div-eq-div-mul}
 use native.Mathlib.Omega.{arith}
 use lib.Dec.{eqb}
 use borrow.Author.Tests.{eqb-true}
+use Rattle.std.specs.Prelude.{Option, option_map}
 use Rattle.bits.specs.Bits.{bits_at}
 use Rattle.word.specs.declared.Form.{Form}
 use Rattle.word.specs.Word as rust
@@ -20,8 +21,8 @@ pub top_is : (w : ℕ) → bits_at w 20 12 ≡ bits_at w 25 7 * 32 + bits_at w 2
 top_is w = let e : w / 2 ^ 20 / 2 ^ 5 ≡ w / 2 ^ 25 = div-div-eq-div-mul w (2 ^ 20) (2 ^ 5) in omega arith
 
 -- the fields that an entry asks for decide form and format
-abbrev Reads : ℕ → Form → Format → Type 0
-Reads w form format = (rust_word w ≡ rust.op_of w form) × (manual_word w ≡ op_of w format)
+abbrev Reads : ℕ → Option Form → Format → Type 0
+Reads w form format = (rust_word w ≡ option_map (rust.op_of w) form) × (manual_word w ≡ op_of w format)
 
 at-imm : (f3 top w : ℕ) → imm f3 top w ≡ true → Reads w (form_by 0x13 f3 (top / 32) (top % 32)) (format_by 0x13 f3 (top / 32) (top % 32))
 at-imm f3 top w h =

@@ -1,4 +1,4 @@
--- Turns of the loops over eight bytes.
+-- Turns of the loop over eight bytes.
 -- Assumes nothing.
 use Rattle.std.proofs.Common.{◌≡◌, ℕ, zero, suc, ◌+◌, ◌*◌, ◌/◌, ◌%◌, ◌^◌, ◌<◌, Bool, true, false, cond, eqb, sym, refl, ap, ◌∙◌, subst, ap₂, lt_of_lt_of_le, mod-lt, mul_comm, add-one, arith, lit<, pow_mono, pow-add, shl_exact}
 use lib.Arith.{digits_lt}
@@ -15,23 +15,10 @@ pow8 n = ap (λ (m : ℕ). 2 ^ m) e ∙ pow-add 2 (n * 8) 8
     e : suc n * 8 ≡ n * 8 + 8
     e = omega arith
 
-pub swapped-none : (x : ℕ) → 0 ≡ swapped x 0
-unfolding swapped
-swapped-none x = refl
-
 pub swapped-lt : (x n : ℕ) → swapped x n < 2 ^ (n * 8)
 unfolding swapped
 swapped-lt x zero = lit< tt
 swapped-lt x (suc n) = subst (λ (m : ℕ). swapped x n * 2 ^ 8 + bits_at x (n * 8) 8 < m) (sym (pow8 n)) (digits_lt (swapped-lt x n) (byte_lt x n))
-
-pub swapped_more : (x i r : ℕ) → i < 8 → r ≡ swapped x i → bit_or ((r * 2 ^ 8) % 2 ^ 64) (bit_and (x / 2 ^ (i * 8)) 0xff) ≡ swapped x (i + 1)
-unfolding swapped
-swapped_more x i r h e =
-    let small : r < 2 ^ 56 = lt_of_lt_of_le (subst (λ (y : ℕ). y < 2 ^ (i * 8)) (sym e) (swapped-lt x i)) (pow_mono {i = i * 8} {j = 56} (omega arith)) in
-    ap₂ bit_or (shl_exact 56 8 64 small (omega arith)) (and_mask (x / 2 ^ (i * 8)) 8)
-    ∙ or_shifted r 8 (bits_at x (i * 8) 8) (byte_lt x i)
-    ∙ ap (λ (y : ℕ). y * 2 ^ 8 + bits_at x (i * 8) 8) e
-    ∙ sym (ap (swapped x) (add-one i))
 
 spread-lt : (byte : ℕ) → spread byte < 2 ^ 8
 spread-lt byte = by (eqb byte 0)

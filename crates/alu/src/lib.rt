@@ -121,5 +121,8 @@ pub fn alu(kind: AluKind, lhs: u64, rhs: u64) -> Answer<u64>
 pub fn alu_call(kind: u64, lhs: u64, rhs: u64) -> Answer<u64>
     ensures { result ≡ alu_call kind lhs rhs }
 {
-    alu(kind_at(kind).ok_or(NoKind)?, lhs, rhs)
+    let Some(known) = kind_at(kind) else {
+        return Err(NoKind);
+    };
+    alu(known, lhs, rhs)
 }

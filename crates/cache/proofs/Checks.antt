@@ -16,7 +16,9 @@ use Rattle.store.specs.Layout.{header, in_bounds, store_len, geometry, opened, F
 use Rattle.store.specs.declared.Geometry.{Geometry}
 use Rattle.store.proofs.Known.{bounds_are, opened_says, place_fits, slot_lt}
 use Rattle.cache.specs.Calls.{make_judged, place_of, lookup_by, lookup_call, insert_judged}
+use Rattle.answer.specs.Answer.{Answer}
 use Rattle.answer.specs.declared.Refusal.{Refusal}
+use Rattle.cache.specs.declared.Hit.{Hit}
 use Rattle.answer.specs.declared.Refusal.TheVariants.{NoStore, BadGeometry, OutsideMemory, IllFormed, WrongBuffer, NothingFound}
 use Rattle.std.specs.Prelude.{Option, Some, None, Ok, Err}
 
@@ -67,18 +69,15 @@ module _ (s : List ℕ) (a : ℕ) (rec : List ℕ) (g : Geometry) where
       go None e q = absurd (rejected q)
 
 -- a hit lies within the store
-module _ (s : List ℕ) (a at n : ℕ) where
-  pub hit-fits : lookup_call s a ≡ Hit at n → at + n ≤ length s
+module _ (s : List ℕ) (a : ℕ) (hit : Hit) where
+  pub hit-fits : lookup_call s a ≡ Ok hit → hit.at + hit.len ≤ length s
   hit-fits h = go (opened s) refl h
     where
-      tests : (g : Geometry) → opened s ≡ Some g → (b : Bool) → cond b (Hit (place_of g a) g.stride) (Err NothingFound) ≡ Hit at n → at + n ≤ length s
-      tests g e true q =
-          let p : place_of g a ≡ at = cc in
-          let z : g.stride ≡ n = cc in
-          rw (p, z) at (slot_fits g s a (opened-fits s g e))
+      tests : (g : Geometry) → opened s ≡ Some g → (b : Bool) → cond {A = Answer Hit} b (Ok (record { at = place_of g a; len = g.stride })) (Err NothingFound) ≡ Ok hit → hit.at + hit.len ≤ length s
+      tests g e true q = let found : ◌≡◌ {A = Hit} (record { at = place_of g a; len = g.stride }) hit = cc in subst (λ (k : Hit). k.at + k.len ≤ length s) found (slot_fits g s a (opened-fits s g e))
       tests g e false q = absurd (let z : ◌≡◌ {A = ℕ} 0 1 = cc in omega arith)
 
-      go : (o : Option Geometry) → opened s ≡ o → lookup_by o s a ≡ Hit at n → at + n ≤ length s
+      go : (o : Option Geometry) → opened s ≡ o → lookup_by o s a ≡ Ok hit → hit.at + hit.len ≤ length s
       go (Some g) e q = tests g e (holds g a && eqb (doubleword_at s (place_of g a)) a) q
       go None e q = absurd (let z : ◌≡◌ {A = ℕ} 0 1 = cc in omega arith)
 

@@ -19,7 +19,7 @@ use Rattle.op.specs.declared.Op.{Op}
 use Rattle.std.specs.Prelude.{Option, Some, None, Err}
 
 module _ (s : List ℕ) (e : length s ≡ 16) (ilen : ℕ) {t : List ℕ} {p : Option Recorded} where
-  pub recorded : (d : Option Op) {n l : ℕ} → p ≡ Recorded n l → (p, t) ≡ put_of d ilen 0 0 s → (done, t) ≡ decoded_into done d ilen s
+  pub recorded : (d : Option Op) {r : Recorded} → p ≡ Some r → (p, t) ≡ put_of d ilen 0 0 s → (done, t) ≡ decoded_into done d ilen s
   recorded (Some op) told was =
       let whole = patch_whole s (op_record op ilen 0) (e ∙ sym (length_record op ilen 0)) in
       ap (λ (u : List ℕ). (done, u)) (ap (λ (o : Option Recorded × List ℕ). o.1) was ∙ whole)
@@ -27,7 +27,7 @@ module _ (s : List ℕ) (e : length s ≡ 16) (ilen : ℕ) {t : List ℕ} {p : O
 
   pub nothing : (d : Option Op) → p ≡ None → (p, t) ≡ put_of d ilen 0 0 s → (Err NoOp, t) ≡ decoded_into done d ilen s
   nothing None told was = ap (λ (o : Option Recorded × List ℕ). (Err NoOp, o.1)) was
-  nothing (Some op) told was = let some : p ≡ Recorded (op_fields op).op ilen = ap (λ (o : Option Recorded × List ℕ). o.0) was in cc
+  nothing (Some op) told was = let some : p ≡ Some (record { op = (op_fields op).op; ilen = ilen }) = ap (λ (o : Option Recorded × List ℕ). o.0) was in cc
 
 -- the judge found a record's length
 pub sixteen : (reading room : ℕ) → decode_judged reading room ≡ done → room ≡ 16

@@ -174,6 +174,7 @@ fn mask(k: u64) -> u8
 }
 
 // Whether the page, counted from the base, has its bit set.
+#[tactic(auto, unfolding(crate::specs::Places::page_bit))]
 pub fn page_bit(store: &[u8], page: u64) -> bool
     requires { header_len + page / 8 < length store.now }
     ensures { result ≡ page_bit store.now page }

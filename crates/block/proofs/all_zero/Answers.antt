@@ -1,20 +1,17 @@
--- `block::all_zero` meets its contract: what was seen and what is left decide together.
-use mathlib.Core.Path.{sym, ◌∙◌}
-use native.Mathlib.Omega.{arith}
+-- `block::all_zero` meets its contract: all bytes put together bit by bit are 0 where each is.
+use mathlib.Core.Path.{◌≡◌, ap, ◌∙◌}
+use Prim.Native.Nat.{ℕ}
+use borrow.Author.Rules.{rules}
+use lib.Bits.{bit_or}
 use lib.Dec.{eqb}
-use lib.ListN.{drop_of_length-le}
-use Rattle.block.specs.WellFormed.{all_zero}
-use Rattle.block.proofs.Zeros.{seen_step, and_true}
+use Rattle.std.specs.List.{fold}
+use Rattle.std.proofs.lemmas.Iterator.{YieldsList-from_slice}
+use Rattle.std.proofs.lemmas.Iterator.Consumers.{fold_from_yields_List}
+use Rattle.block.proofs.Zeros.{seen_all}
 use Rattle.block.proofs.all_zero.Goals as goal
 
-pub loop-i-preserved : goal.loop-i-preserved
-loop-i-preserved c =
-    let l = c.loop-i in
-    (omega arith, seen_step l.seen c.args.s.now l.i c.loop-i-test.true ∙ l.invariant.1)
-
 pub returns : goal.returns
-unfolding all_zero
 returns c =
-    let l = c.loop-i in
-    let none = drop_of_length-le c.args.s.now {i = l.i} c.loop-i-test.false in
-    sym (and_true (eqb l.seen 0)) ∙ rw none at l.invariant.1
+    let s = c.args.s.now in
+    let seen : c.fold.result ≡ fold bit_or 0 s = fold_from_yields_List _ bit_or 0 _ c.fold.ensures.ran (YieldsList-from_slice s cc) (λ a x b q k. search rules) in
+    ap (λ (n : ℕ). eqb n 0) seen ∙ seen_all 0 s

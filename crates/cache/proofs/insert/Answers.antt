@@ -6,5 +6,5 @@ use Rattle.cache.proofs.insert.Goals as goal
 
 pub insert_in-requires : goal.insert_in-requires
 insert_in-requires c =
-    let w = insert_taken _ _ _ _ (sym c.in-Accepted.ensures) in
+    let w = insert_taken _ _ _ _ (sym c.in_ok-g.ensures) in
     (opened-fits _ _ w.sound, (w.inner, place_long _ _ _ w.sound w.whole))

@@ -20,6 +20,4 @@ returns-in-393299 c =
     binary_made Max w _ _ _ c.rd-rd.ensures c.rs1-rs1.ensures c.rs2-rs2.ensures (sym (manual-is w ∙ rw (k.0, k.1, k.2) refl))
 
 pub returns-in_default : goal.returns-in_default
-returns-in_default c =
-    let r = c.in_default.in_default-own.rest in
-    reg_alike c.args.inst.0 c.funct3.result c.funct7.result c.funct3.ensures c.funct7.ensures c.requires r.0.1 r.1
+returns-in_default c = reg_alike c.args.inst.0 c.funct3.result c.funct7.result c.funct3.ensures c.funct7.ensures c.requires (omega arith) (omega arith)

@@ -1,5 +1,5 @@
 -- `reading::word_apart` meets its contract.
-use Rattle.std.proofs.Common.{refl}
+use Rattle.std.proofs.Common.{refl, arith}
 use borrow.Author.Tests.{ne_eqb}
 use Rattle.reading.specs.Readings.{reading_of}
 use Rattle.reading.proofs.Parted.{other_alike}
@@ -19,6 +19,4 @@ returns-in-12 c = rw c.if-reading-ne-MANUAL.false c.reg_apart.ensures
 
 pub returns-in_default : goal.returns-in_default
 unfolding reading_of
-returns-in_default c =
-    let r = c.in_default.in_default-own.rest in
-    rw c.if-reading-ne-MANUAL.false (other_alike c.args.raw r.0.1 r.1)
+returns-in_default c = rw c.if-reading-ne-MANUAL.false (other_alike c.args.raw (omega arith) (omega arith))

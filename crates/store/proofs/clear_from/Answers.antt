@@ -11,5 +11,5 @@ returns c =
     let a = c.args in
     let n = length a.store.now - a.at in
     put_part a.store.now a.at n _ (replicate n 0)
-    (c.fill.ensures ∙ ap (λ (k : ℕ). replicate {A = ℕ} k 0) (length_part a.store.now a.at n (omega arith)))
+    (c.fill.ensures.after (λ y e. e) ∙ ap (λ (k : ℕ). replicate {A = ℕ} k 0) (length_part a.store.now a.at n (omega arith)))
     (length-replicate {A = ℕ} n 0)

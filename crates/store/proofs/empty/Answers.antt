@@ -5,4 +5,4 @@ use Rattle.store.proofs.Places.{empty_made}
 use Rattle.store.proofs.empty.Goals as goal
 
 pub returns : goal.returns
-returns c = c.put_doubleword.ensures ∙ ap (λ (l : List ℕ). patch l 0 (le 8 0xFFFF_FFFF_FFFF_FFFF)) c.fill.ensures ∙ empty_made _ c.requires
+returns c = c.put_doubleword.ensures ∙ ap (λ (l : List ℕ). patch l 0 (le 8 0xFFFF_FFFF_FFFF_FFFF)) (c.fill.ensures.after (λ y e. e)) ∙ empty_made _ c.requires

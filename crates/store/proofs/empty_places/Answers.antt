@@ -14,7 +14,7 @@ loop-i-init c = (walking_begins _ _ _ _ _, refl)
 pub empty_at-dropped-requires : goal.empty_at-dropped-requires
 empty_at-dropped-requires c =
     let l = c.loop-i in
-    let few : l.dropped ≤ l.i = rw l.invariant.1 (count-le _ _) in
+    let few : l.dropped ≤ l._i = rw l.invariant.1 (count-le _ _) in
     (c.requires.0, walking_fits _ _ _ _ _ _ _ _ l.invariant.0 c.loop-i-test.true c.requires.1, omega arith)
 
 pub loop-i-preserved : goal.loop-i-preserved

@@ -16,14 +16,14 @@ unfolding each_place vacated
 loop-i-preserved c =
     let l = c.loop-i in
     let a = c.args in
-    let fits : l.at + a.stride ≤ length l.store = walking_fits vacated a.first a.stride a.n a.store.now l.store l.i l.at l.invariant c.loop-i-test.true c.requires.1 in
+    let fits : l.at + a.stride ≤ length l.store = walking_fits vacated a.first a.stride a.n a.store.now l.store l._i l.at l.invariant c.loop-i-test.true c.requires.1 in
     let address = le 8 0xFFFF_FFFF_FFFF_FFFF in
-    let so_far = each_place vacated a.first a.stride l.i a.store.now in (
+    let so_far = each_place vacated a.first a.stride l._i a.store.now in (
       omega arith,
       rw (add-one, mul-suc) (omega arith),
       c.put_doubleword.ensures
           ∙ ap₂ (λ (t : List ℕ) (k : ℕ). patch t k address) l.invariant.2 l.invariant.1
-          ∙ sym (patch-part so_far (a.first + a.stride * l.i) a.stride address (rw (l.invariant.1, l.invariant.2) at fits) (rw length-le c.requires.0))
+          ∙ sym (patch-part so_far (a.first + a.stride * l._i) a.stride address (rw (l.invariant.1, l.invariant.2) at fits) (rw length-le c.requires.0))
           ∙ rw add-one,
       omega arith,
     )
