@@ -10,10 +10,10 @@ use std::num::NonZeroU16;
 
 // The line of an op record.
 fn op_line(rt: &impl Print, record: &[u8; 16]) -> io::Result<()> {
-    let [op, kind, rd, rs1, rs2, ilen, low, high, imm @ ..] = *record;
-    let pc_off = u16::from_le_bytes([low, high]);
+    let [op, kind, rd, rs1, rs2, ilen, ..] = record;
+    let pc_off = bits::halfword_at(record, 6);
     // Fallback's raw is below 2^32 and comes out unsigned.
-    let imm = i64::from_le_bytes(imm);
+    let imm = bits::doubleword_at(record, 8).cast_signed();
     println!(rt; "{pc_off} {ilen} {op} {kind} {rd} {rs1} {rs2} {imm}")
 }
 
