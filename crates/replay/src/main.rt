@@ -3,6 +3,8 @@
 // 40 bytes; host/compare/src/replay.rs says what they hold.
 #![tactic(auto)]
 
+ghost use Rattle.std.specs.Prelude.{◌^◌, ◌<◌};
+
 use answer::Answer;
 use cache::Report;
 use std::io;
@@ -32,7 +34,8 @@ impl Digest {
 
     // A call's number, and the N bytes that it was lent.
     fn with_call<const N: usize, F: FnOnce(&mut [u8]) -> Answer<()>>(self, call: F) -> Self
-        requires { F.IsAlwaysCallable call }
+        requires callable { F.IsAlwaysCallable call }
+        requires fits { N < 2 ^ 63 }
     {
         let mut lent = [170u8; N];
         let answer = call(&mut lent);

@@ -180,10 +180,10 @@ fn refused(rt: &impl Print) -> io::Result<()> {
 
 // Bytes that were never made a store, and one byte too few to make one.
 fn no_store(rt: &impl Print) -> io::Result<()> {
-    let mut machine = Machine::new();
+    let machine = Machine::new();
     machine.generation(rt)?;
     machine.lookup(rt, 0)?;
-    done(rt, cache::make(&mut machine.store[..4199], 0, 2, 0, 2))
+    done(rt, cache::make(&mut [0; 4199], 0, 2, 0, 2))
 }
 
 // A store is made in either reading, and its byte 3 says which; it serves insertions and lookups in both. There is no third.

@@ -2,6 +2,8 @@
 // A line of decoding shows a call's number and the lent bytes afterwards, which start as 170s; a line of the ALU the number and the value.
 #![tactic(auto)]
 
+ghost use Rattle.std.specs.Prelude.{◌^◌, ◌<◌};
+
 use answer::Answer;
 use std::io;
 
@@ -17,7 +19,8 @@ fn line<const N: usize, F: FnOnce(&mut [u8]) -> Answer<()>>(
     rt: &impl Print,
     call: F,
 ) -> io::Result<()>
-    requires { F.IsAlwaysCallable call }
+    requires callable { F.IsAlwaysCallable call }
+    requires fits { N < 2 ^ 63 }
 {
     let mut lent = [170u8; N];
     let answer = call(&mut lent);
