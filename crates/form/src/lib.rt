@@ -35,7 +35,7 @@ fn fetch_word(reading: u64, raw: u32, lent: &mut [u8], place: usize, off: u16) -
     requires { place + 16 ≤ length lent.old }
     ensures { (result, lent.new) ≡ put_of (or_fallback raw ((reading_of reading).of_word raw)) 4 place off lent.old }
 {
-    let Some(Recorded { op, ilen: _ }) = decode::put_word(reading, raw, lent, place, off) else {
+    let Some(Recorded { op, ilen: _ }) = decode::put(reading, raw, lent, place, off) else {
         if stops_block(raw) {
             return None;
         }
@@ -64,9 +64,11 @@ fn fetch(reading: u64, s: &[u8], at: usize, lent: &mut [u8], place: usize) -> Op
         }
         return fetch_word(reading, bits::word_at(s, at), lent, place, at as u16);
     }
-    // No Fallback of two bytes.
-    let Recorded { op, ilen: _ } = decode::put_halfword(reading, low, lent, place, at as u16)?;
-    Some(Recorded { op, ilen: 2 })
+    let half = decode::put(reading, low, lent, place, at as u16)?; // no Fallback of two bytes
+    Some(Recorded {
+        op: half.op,
+        ilen: 2,
+    })
 }
 
 // The ops of the block whose bytes start s, each through its part of the lent record; its other bytes stay.
@@ -130,6 +132,7 @@ fn judge_form(reading: u64, len: u64, room: usize, base: u64, address: u64) -> A
 }
 
 // Forms the block at an address of the memory that starts at base, into the lent record of 1,040 bytes.
+#[tactic(auto, unfolding(crate::specs::Call::form_call))]
 pub fn form(reading: u64, memory: &[u8], base: u64, address: u64, lent: &mut [u8]) -> Answer<()>
     ensures { (result, lent.new) ≡ form_call reading memory.now base address lent.old }
 {

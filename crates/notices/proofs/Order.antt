@@ -11,7 +11,7 @@ use Rattle.bits.proofs.Every.{decide}
 use Rattle.bits.proofs.Tests.{or_right, not_true, true_false}
 use Rattle.store.specs.Layout.{Fitting}
 use Rattle.store.specs.declared.Geometry.{Geometry}
-use Rattle.cache.specs.Answers.{report_number, nothing_done, reported}
+use Rattle.cache.specs.Answers.{nothing_done, reported}
 use Rattle.cache.specs.Calls.{noticed_in, report_in, summed, notice_by, notice_call, flush_call}
 use Rattle.cache.specs.declared.Report.{Report}
 use Rattle.cache.proofs.Reports.{none-summed, summed_assoc}
@@ -20,6 +20,7 @@ use Rattle.cache.proofs.Order.{noticed_alike, report_alike, noticed_again, repor
 use Rattle.cache.proofs.FlushAfter.{flush_after_notice}
 use Rattle.notices.specs.Notices.{noticed_all, report_all, notices_by, notices_call}
 use Rattle.notices.specs.Pages.{names, report_once}
+use Rattle.answer.specs.Answer.{answer_number}
 use Rattle.std.specs.Prelude.{Ok}
 
 -- an address that a list has lies in a page that it names, and where it names a page, it has an address there
@@ -150,8 +151,8 @@ module _ (s : List ℕ) where
   none-report = on_any_bytes s (λ o. reported (notices_by o s []).0 ≡ nothing_done) (λ g f. refl) refl
 
   -- any list answers the number that one notice does, and a list of one is that notice
-  pub same_number : (list : List ℕ) (a : ℕ) → report_number (notices_call s list).0 ≡ report_number (notice_call s a).0
-  same_number list a = on_any_bytes s (λ o. report_number (notices_by o s list).0 ≡ report_number (notice_by o s a).0) (λ g f. refl) refl
+  pub same_number : (list : List ℕ) (a : ℕ) → answer_number (notices_call s list).0 ≡ answer_number (notice_call s a).0
+  same_number list a = on_any_bytes s (λ o. answer_number (notices_by o s list).0 ≡ answer_number (notice_by o s a).0) (λ g f. refl) refl
 
   pub one_notice : (a : ℕ) → notices_call s (a ∷ []) ≡ notice_call s a
   unfolding noticed_all report_all

@@ -5,6 +5,8 @@ use Rattle.bits.specs.Bytes.{halfword_at}
 use Rattle.reading.specs.Readings.{reading_of}
 use Rattle.decode.specs.Call.{put_of}
 use Rattle.form.specs.Forming.{or_fallback, op_at}
+use Rattle.std.specs.Prelude.{Option}
+use Rattle.decode.specs.declared.Recorded.{Recorded}
 use Rattle.form.proofs.Taken.{kept}
 use Rattle.form.proofs.fetch.Goals as goal
 use Rattle.decode.specs.declared.Recorded.{Recorded}
@@ -29,14 +31,14 @@ returns-then-low-eq3 c =
     rw (le-ltb (length a.s.now) (a.at + 2) c.if-s-at.false, word, le-ltb (length a.s.now) (a.at + 4) c.if-s-at-2.false)
     (c.fetch_word.ensures ∙ ap (λ (w : ℕ). put_of (or_fallback w ((reading_of a.reading).of_word w)) 4 a.place a.at a.lent.now) c.word_at.ensures)
 
-pub returns-in_default : goal.returns-in_default
+pub returns-in_err-half : goal.returns-in_err-half
 unfolding op_at
-returns-in_default c =
+returns-in_err-half c =
     let a = c.args in
     let half : eqb (halfword_at a.s.now a.at % 4) 3 ≡ false = ne_eqb (halfword_at a.s.now a.at % 4) 3 (rw c.halfword_at-low.ensures at c.if-low-eq3.false) in
-    rw (le-ltb (length a.s.now) (a.at + 2) c.if-s-at.false, half)
-    (ap (λ (p : Option Recorded). (p, c.put_halfword.new.lent)) (sym c.in_default.is)
-    ∙ c.put_halfword.ensures ∙ ap (λ (h : ℕ). put_of ((reading_of a.reading).of_half h) 2 a.place a.at a.lent.now) c.halfword_at-low.ensures)
+    rw (le-ltb (length a.s.now) (a.at + 2) c.if-s-at.false, half, c.from_residual.ensures)
+    (ap (λ (p : Option Recorded). (p, c.put.new.lent)) (sym c.in_err-half.was)
+    ∙ c.put.ensures ∙ ap (λ (h : ℕ). put_of ((reading_of a.reading).of_half h) 2 a.place a.at a.lent.now) c.halfword_at-low.ensures)
 
 pub returns : goal.returns
 unfolding op_at
@@ -44,5 +46,5 @@ returns c =
     let a = c.args in
     let half : eqb (halfword_at a.s.now a.at % 4) 3 ≡ false = ne_eqb (halfword_at a.s.now a.at % 4) 3 (rw c.halfword_at-low.ensures at c.if-low-eq3.false) in
     rw (le-ltb (length a.s.now) (a.at + 2) c.if-s-at.false, half)
-    (kept 2 a.place a.at a.lent.now (λ d. d) (λ op. refl) ((reading_of a.reading).of_half (halfword_at a.s.now a.at)) c.in-Recorded.is
-    (c.put_halfword.ensures ∙ ap (λ (h : ℕ). put_of ((reading_of a.reading).of_half h) 2 a.place a.at a.lent.now) c.halfword_at-low.ensures))
+    (kept 2 a.place a.at a.lent.now (λ d. d) (λ op. refl) ((reading_of a.reading).of_half (halfword_at a.s.now a.at)) c.in_ok-half.was
+    (c.put.ensures ∙ ap (λ (h : ℕ). put_of ((reading_of a.reading).of_half h) 2 a.place a.at a.lent.now) c.halfword_at-low.ensures))

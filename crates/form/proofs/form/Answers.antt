@@ -8,12 +8,12 @@ use Rattle.form.proofs.Judged.{begun}
 use Rattle.form.proofs.form.Goals as goal
 use Rattle.answer.specs.Answer.{done}
 
-pub returns-in-Done : goal.returns-in-Done
+pub returns : goal.returns
 unfolding form_call
-returns-in-Done c =
+returns c =
     let a = c.args in
     let size = length a.memory.now in
-    let judged : form_judged a.reading size (length a.lent.now) a.base a.address ≡ done = sym c.judge_form.ensures ∙ c.in-Done.is in
+    let judged : form_judged a.reading size (length a.lent.now) a.base a.address ≡ done = sym c.judge_form.ensures ∙ c.in_ok-judge_form.was in
     let b = begun a.reading size (length a.lent.now) a.base a.address judged in
     let h = held size a.base a.address b.inner in
     let good : GoodMemory size a.base = good_memory_lem b.good in
@@ -22,7 +22,3 @@ returns-in-Done c =
     let bytes = ap (λ (n : ℕ). take n (drop from a.memory.now)) width ∙ rest_is a.memory.now a.base a.address good.based h.0 (omega arith) in
     rw judged
     (c.form_rest.ensures ∙ ap (λ (s : List ℕ). formed_into done a.address (ops_from (reading_of a.reading) s 64 0) a.lent.now) bytes)
-
-pub returns-in-Refused : goal.returns-in-Refused
-unfolding form_call
-returns-in-Refused c = rw (sym c.judge_form.ensures ∙ c.in-Refused.is)

@@ -38,22 +38,26 @@ returns-then-jumps c =
     let l = c.loop-count in
     let a = c.args in
     let r = reading_of a.reading in
-    let t = took (ilen_at a.s.now l.at) (16 + l.count * 16) l.at l.lent (op_at r a.s.now l.at) c.in-Recorded.is c.fetch.ensures in
+    let t = took (ilen_at a.s.now l.at) (16 + l.count * 16) l.at l.lent (op_at r a.s.now l.at) c.in-Some.is c.fetch.ensures in
     let e : jumps (op_fields t.op).op ≡ true = ap jumps (sym t.number) ∙ sym c.jumps.ensures ∙ c.if-jumps.true in
-    let i = inside r a.s.now a.lent.now l.lent c.fetch.new.lent l.count l.at c.in-Recorded.op c.in-Recorded.ilen t in
-    finish (omega arith) (omega (arith, i)) (rw e at (left r a.s.now a.lent.now l.lent c.fetch.new.lent l.count l.at c.in-Recorded.op c.in-Recorded.ilen t c.loop-count-test.true l.invariant.0))
+    let i = inside r a.s.now a.lent.now l.lent c.fetch.new.lent l.count l.at c.in-Some.field-0.op c.in-Some.field-0.ilen t in
+    finish (omega arith) (omega (arith, i)) (rw e at (left r a.s.now a.lent.now l.lent c.fetch.new.lent l.count l.at c.in-Some.field-0.op c.in-Some.field-0.ilen t c.loop-count-test.true l.invariant.0))
 
 pub loop-count-preserved : goal.loop-count-preserved
 loop-count-preserved c =
     let l = c.loop-count in
     let a = c.args in
     let r = reading_of a.reading in
-    let t = took (ilen_at a.s.now l.at) (16 + l.count * 16) l.at l.lent (op_at r a.s.now l.at) c.in-Recorded.is c.fetch.ensures in
+    let t = took (ilen_at a.s.now l.at) (16 + l.count * 16) l.at l.lent (op_at r a.s.now l.at) c.in-Some.is c.fetch.ensures in
     let e : jumps (op_fields t.op).op ≡ false = ap jumps (sym t.number) ∙ sym c.jumps.ensures ∙ c.if-jumps.false in
-    let i = inside r a.s.now a.lent.now l.lent c.fetch.new.lent l.count l.at c.in-Recorded.op c.in-Recorded.ilen t in
-    (rw e at (left r a.s.now a.lent.now l.lent c.fetch.new.lent l.count l.at c.in-Recorded.op c.in-Recorded.ilen t c.loop-count-test.true l.invariant.0), omega arith, omega (arith, i))
+    let i = inside r a.s.now a.lent.now l.lent c.fetch.new.lent l.count l.at c.in-Some.field-0.op c.in-Some.field-0.ilen t in
+    (rw e at (left r a.s.now a.lent.now l.lent c.fetch.new.lent l.count l.at c.in-Some.field-0.op c.in-Some.field-0.ilen t c.loop-count-test.true l.invariant.0), omega arith, omega (arith, i))
 
 pub returns : goal.returns
 returns c =
     let l = c.loop-count in
-    finish l.invariant.1 (omega arith) (rw (ops_full (reading_of c.args.reading) c.args.s.now l.count l.at c.loop-count-test.false) at l.invariant.0)
+    let a = c.args in
+    let all : l.count ≡ 64 = omega arith in
+    finish (omega arith) (omega arith)
+    (subst (λ (n : ℕ). Left (ops_from (reading_of a.reading) a.s.now 64 0) [] a.lent.now l.lent n l.at) all
+    (rw (ops_full (reading_of a.reading) a.s.now l.count l.at c.loop-count-test.false) at l.invariant.0))

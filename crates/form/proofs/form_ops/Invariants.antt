@@ -8,6 +8,3 @@ use Rattle.form.proofs.form_ops.Given as goal
 abbrev pub invariant-loop-count : goal.invariant-loop-count
 invariant-loop-count l =
     Left (ops_from (reading_of l.reading) l.s 64 0) (ops_from (reading_of l.reading) l.s (64 - l.count) l.at) l.initial.lent l.lent l.count l.at × (l.count ≤ 64) × (l.at ≤ length l.s)
-
-abbrev pub decreases-loop-count : goal.decreases-loop-count
-decreases-loop-count l = 64 - l.count

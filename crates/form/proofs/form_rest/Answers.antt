@@ -17,5 +17,5 @@ returns c =
     let a = c.args in
     let ops = c.form_ops-block in
     ap (λ (s : List ℕ). (done, s)) c.put_head.ensures
-    ∙ sealed a.address (ops_from (reading_of a.reading) a.s.now 64 0) a.lent.now ops.new.lent c.fill.new.dst
-    ops.result.count ops.result.len c.if-count-eq0.false c.requires.1 ops.ensures c.fill.ensures
+    ∙ sealed a.address (ops_from (reading_of a.reading) a.s.now 64 0) a.lent.now ops.new.lent c.fill.new.self
+    ops.result.count ops.result.len c.if-count-eq0.false c.requires.1 ops.ensures (c.fill.ensures.after (λ y e. e))

@@ -4,22 +4,22 @@ use Rattle.notices.specs.Notices.{noticed_all, report_all}
 use Rattle.notices.proofs.Sums.{noticed_more, report_more, sums_fit}
 use Rattle.notices.proofs.notices_in.Goals as goal
 
-pub loop-i-init : goal.loop-i-init
+pub loop-address-init : goal.loop-address-init
 unfolding noticed_all report_all
-loop-i-init c = (omega arith, c.nothing-report.ensures, refl)
+loop-address-init c = (omega arith, c.nothing-report.ensures, refl)
 
 pub sum-report-requires : goal.sum-report-requires
 sum-report-requires c =
-    let l = c.loop-i in
+    let l = c.loop-address in
     let a = c.args in
-    sums_fit a.g a.store.now a.addresses.now l.i c.loop-i-test.true l.store l.invariant.2 _ _ l.invariant.1 c.notice_in.ensures.0 c.requires
+    sums_fit a.g a.store.now a.addresses.now l.address-index c.loop-address-test.true l.store l.invariant.2 _ _ l.invariant.1 c.notice_in.ensures.0 c.requires
 
-pub loop-i-preserved : goal.loop-i-preserved
-loop-i-preserved c =
-    let l = c.loop-i in
+pub loop-address-preserved : goal.loop-address-preserved
+loop-address-preserved c =
+    let l = c.loop-address in
     let a = c.args in
-    let more = c.loop-i-test.true in (
+    let more = c.loop-address-test.true in (
       omega arith,
-      c.sum-report.ensures ∙ report_more a.g a.store.now a.addresses.now l.i more l.store l.invariant.2 _ _ l.invariant.1 c.notice_in.ensures.0,
-      c.notice_in.ensures.1 ∙ noticed_more a.g a.store.now a.addresses.now l.i more l.store l.invariant.2,
+      c.sum-report.ensures ∙ report_more a.g a.store.now a.addresses.now l.address-index more l.store l.invariant.2 _ _ l.invariant.1 c.notice_in.ensures.0,
+      c.notice_in.ensures.1 ∙ noticed_more a.g a.store.now a.addresses.now l.address-index more l.store l.invariant.2,
     )
