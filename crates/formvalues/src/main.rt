@@ -2,7 +2,6 @@
 // input in the Rust's. A line of six numbers: the number, the record's address, count, byte_len, and the first op's number and kind. A record starts as 170s.
 #![tactic(auto)]
 
-use lines::number;
 use std::io;
 
 // The readings, and a number that is none.
@@ -14,35 +13,34 @@ const NONE: u64 = 2;
 
 fn formed(rt: &impl Print, reading: u64, page: &[u8], base: u64, address: u64) -> io::Result<()> {
     let mut lent = [170u8; 1040];
-    let answer = form::form(reading, page, base, address, &mut lent);
-    number(rt, answer.number(), b' ')?;
-    number(rt, bits::doubleword_at(&lent, 0), b' ')?;
-    number(rt, bits::halfword_at(&lent, 8) as u64, b' ')?;
-    number(rt, bits::halfword_at(&lent, 10) as u64, b' ')?;
-    number(rt, bits::as_u64(lent[16]), b' ')?;
-    number(rt, bits::as_u64(lent[17]), b'\n')
+    let number = answer::number(&form::form(reading, page, base, address, &mut lent));
+    let at = bits::doubleword_at(&lent, 0);
+    let count = bits::halfword_at(&lent, 8);
+    let len = bits::halfword_at(&lent, 10);
+    println!(rt; "{number} {at} {count} {len} {} {}", lent[16], lent[17])
 }
 
-fn page_of(low: u8, high: u8) -> [u8; 4096] {
+// A page that starts with these halfwords.
+fn page_of(halfwords: &[u16]) -> [u8; 4096] {
     let mut page = [0u8; 4096];
-    page[4094] = low;
-    page[4095] = high;
+    let (places, _) = page.as_chunks_mut::<2>();
+    for (place, raw) in places.iter_mut().zip(halfwords) {
+        *place = raw.to_le_bytes();
+    }
     page
 }
 
-// Two bytes at the page's end.
-fn at_end(rt: &impl Print, low: u8, high: u8, address: u64) -> io::Result<()> {
-    let page = page_of(low, high);
+// A halfword at the page's end.
+fn at_end(rt: &impl Print, raw: u16, address: u64) -> io::Result<()> {
+    let mut page = [0u8; 4096];
+    page[4094..].copy_from_slice(&raw.to_le_bytes());
     formed(rt, RUST, &page, 0x1000, address)
 }
 
 // One word at the page's start, in a reading.
 fn at_start(rt: &impl Print, reading: u64, raw: u32) -> io::Result<()> {
     let mut page = [0u8; 4096];
-    page[0] = (raw % 256) as u8;
-    page[1] = (raw / 0x100 % 256) as u8;
-    page[2] = (raw / 0x1_0000 % 256) as u8;
-    page[3] = (raw / 0x100_0000 % 256) as u8;
+    page[..4].copy_from_slice(&raw.to_le_bytes());
     formed(rt, reading, &page, 0x1000, 0x1000)
 }
 
@@ -53,26 +51,16 @@ fn in_both(rt: &impl Print, raw: u32) -> io::Result<()> {
 
 // C.ADDI of x10 with 1, a halfword and C.JR of x1, listed in both readings; then the number and record where the halfword comes first.
 fn between(rt: &impl Print, raw: u16) -> io::Result<()> {
-    let mut page = [0u8; 4096];
-    page[0] = 0x05;
-    page[1] = 0x05;
-    page[2] = (raw % 256) as u8;
-    page[3] = (raw / 256) as u8;
-    page[4] = 0x82;
-    page[5] = 0x80;
+    let page = page_of(&[0x0505, raw, 0x8082]);
     lines::list(rt, RUST, &page)?;
     lines::list(rt, MANUAL, &page)?;
     formed(rt, RUST, &page, 0x1000, 0x1002)?;
     formed(rt, MANUAL, &page, 0x1000, 0x1002)
 }
 
+// One C.NOP more than a block takes.
 fn halfwords(rt: &impl Print) -> io::Result<()> {
-    let mut page = [0u8; 4096];
-    let mut i = 0;
-    while i < 65 {
-        page[i * 2] = 1;
-        i += 1;
-    }
+    let page = page_of(&[0x0001; 65]);
     formed(rt, RUST, &page, 0x1000, 0x1000)?;
     formed(rt, RUST, &page, 0x1000, 0x1080)
 }
@@ -81,15 +69,14 @@ fn halfwords(rt: &impl Print) -> io::Result<()> {
 fn short(rt: &impl Print, reading: u64) -> io::Result<()> {
     let page = [0u8; 4096];
     let mut lent = [170u8; 1039];
-    let answer = form::form(reading, &page, 0, 0, &mut lent);
-    number(rt, answer.number(), b' ')?;
-    number(rt, bits::as_u64(lent[0]), b'\n')
+    let number = answer::number(&form::form(reading, &page, 0, 0, &mut lent));
+    println!(rt; "{number} {}", lent[0])
 }
 
 fn main(rt: HostRuntime) -> io::Result<()> {
-    at_end(&rt, 0x13, 0x05, 0x1ffe)?;
-    at_end(&rt, 0x01, 0x00, 0x1ffe)?;
-    at_end(&rt, 0x01, 0x00, 0x1fff)?;
+    at_end(&rt, 0x0513, 0x1ffe)?;
+    at_end(&rt, 0x0001, 0x1ffe)?;
+    at_end(&rt, 0x0001, 0x1fff)?;
     halfwords(&rt)?;
     in_both(&rt, 0x0000_0073)?;
     in_both(&rt, 0x0000_000f)?;
@@ -107,8 +94,8 @@ fn main(rt: HostRuntime) -> io::Result<()> {
     between(&rt, 0x6001)?;
     between(&rt, 0x6081)?;
     at_start(&rt, NONE, 0x0ac5_d533)?;
-    at_end(&rt, 0x01, 0x00, 0x0fff)?;
-    at_end(&rt, 0x01, 0x00, 0x2000)?;
+    at_end(&rt, 0x0001, 0x0fff)?;
+    at_end(&rt, 0x0001, 0x2000)?;
     let page = [0u8; 4096];
     formed(&rt, RUST, &page, 0x800, 0x800)?;
     formed(&rt, RUST, &page[1..], 0, 0)?;

@@ -1,95 +1,53 @@
 // Writes the blocks of one page in a reading to standard output, as docs/FORMATS.md, The listing, has them.
 #![tactic(auto)]
 
-ghost use Rattle.std.specs.Prelude.{◌≡◌, ◌<◌, ◌≤◌, length, IfOk};
+ghost use Rattle.std.specs.Prelude.{◌≤◌, length, IfOk};
 
-use answer::Answer;
 use block::BlockRecord;
-use op::OpRecord;
 use std::io;
 use std::io::Read;
-
-// A number and the byte after it.
-pub fn number(rt: &impl Print, n: u64, after: u8) -> io::Result<()> {
-    print!(rt; "{n}")?;
-    rt.write_all(&[after])
-}
-
-// A number in two's complement, and the end of the line. Fallback's raw is below 2^32 and comes out unsigned.
-fn signed(rt: &impl Print, n: u64) -> io::Result<()> {
-    if n < 0x8000_0000_0000_0000 {
-        number(rt, n, b'\n')
-    } else {
-        print!(rt; "-")?;
-        number(rt, u64::MAX - n + 1, b'\n')
-    }
-}
+use std::num::NonZeroU16;
 
 // The line of an op record.
-fn op_line(rt: &impl Print, record: &[u8]) -> io::Result<()>
-    requires { length «record».now ≡ 16 }
-{
-    number(rt, bits::halfword_at(record, 6) as u64, b' ')?;
-    number(rt, bits::as_u64(record[5]), b' ')?;
-    number(rt, bits::as_u64(record[0]), b' ')?;
-    number(rt, bits::as_u64(record[1]), b' ')?;
-    number(rt, bits::as_u64(record[2]), b' ')?;
-    number(rt, bits::as_u64(record[3]), b' ')?;
-    number(rt, bits::as_u64(record[4]), b' ')?;
-    signed(rt, bits::doubleword_at(record, 8))
+fn op_line(rt: &impl Print, record: &[u8; 16]) -> io::Result<()> {
+    let [op, kind, rd, rs1, rs2, ilen, ..] = record;
+    let pc_off = bits::halfword_at(record, 6);
+    // Fallback's raw is below 2^32 and comes out unsigned.
+    let imm = bits::doubleword_at(record, 8).cast_signed();
+    println!(rt; "{pc_off} {ilen} {op} {kind} {rd} {rs1} {rs2} {imm}")
 }
 
-fn op_lines(rt: &impl Print, record: &[u8], count: usize) -> io::Result<()>
-    requires { length «record».now ≡ 1040 }
-{
-    let mut i = 0;
-    let mut from = BlockRecord::HEAD;
-    while i < count {
-        let to = from + OpRecord::LEN;
-        if record.len() < to {
-            return Ok(());
-        }
-        op_line(rt, &record[from..to])?;
-        from = to;
-        i += 1;
-    }
-    Ok(())
-}
-
-// The lines of the block at an offset of the page, and how many bytes it has; 0 where none forms.
-fn block_lines(rt: &impl Print, reading: u64, page: &[u8], at: u64) -> io::Result<u64>
-    ensures { IfOk result (λ len. len < 65536) }
-{
+// The lines of the block at an offset of the page, and how many bytes it has.
+fn block_lines(
+    rt: &impl Print,
+    reading: u64,
+    page: &[u8],
+    at: u64,
+) -> io::Result<Option<NonZeroU16>> {
     let mut record = [0u8; 1040];
-    let Answer::Done = form::form(reading, page, 0, at, &mut record) else {
-        return Ok(0);
-    };
+    if form::form(reading, page, 0, at, &mut record).is_err() {
+        return Ok(None);
+    }
     let count = bits::halfword_at(&record, 8);
     let len = bits::halfword_at(&record, 10);
-    print!(rt; "block ")?;
-    number(rt, at, b' ')?;
-    number(rt, count as u64, b' ')?;
-    number(rt, len as u64, b'\n')?;
-    op_lines(rt, &record, count as usize)?;
-    Ok(len as u64)
-}
-
-fn end_line(rt: &impl Print, at: u64) -> io::Result<()> {
-    print!(rt; "end ")?;
-    number(rt, at, b'\n')
+    println!(rt; "block {at} {count} {len}")?;
+    let (ops, _) = record[BlockRecord::HEAD..].as_chunks::<16>();
+    for op in ops.iter().take(count as usize) {
+        op_line(rt, op)?;
+    }
+    Ok(NonZeroU16::new(len))
 }
 
 // Each turn lists a block of at least one byte, so the offset grows up to the page's end.
 pub fn list(rt: &impl Print, reading: u64, page: &[u8]) -> io::Result<()> {
     let mut at: u64 = 0;
     while at < block::PAGE {
-        let len = block_lines(rt, reading, page, at)?;
-        if len == 0 {
-            return end_line(rt, at);
-        }
-        at += len;
+        let Some(len) = block_lines(rt, reading, page, at)? else {
+            break;
+        };
+        at += u64::from(len.get());
     }
-    end_line(rt, at)
+    println!(rt; "end {at}")
 }
 
 // Reads standard input until buf is full or the input ends, and answers how many bytes it put at the start of buf. A HostRuntime's reader takes no byte

@@ -2,7 +2,8 @@
 // docs/PLANT.md tells it and says which theorem speaks of each step.
 #![tactic(auto)]
 
-use cache::ReportAnswer;
+use answer::Answer;
+use cache::Report;
 use std::io;
 
 // The Rust's reading, for the store and for each block.
@@ -17,97 +18,94 @@ const CLOSE: u64 = 0x0010_0513;
 
 const RETURN: u64 = 0x8082;
 
-fn text(rt: &impl Print, line: &[u8]) -> io::Result<()> {
-    rt.write_all(line)
-}
-
-fn end(rt: &impl Print, n: u64) -> io::Result<()> {
-    println!(rt; "{n}")
-}
+// Where a block record has its first op's immediate, which x10 is loaded with.
+const LOADED: usize = 24;
 
 // What a notice or a guest write did.
-fn reported(rt: &impl Print, answer: ReportAnswer) -> io::Result<()> {
-    let report = answer.report();
-    let number = answer.number();
-    print!(rt;
-        "{number}, slots examined {}, blocks dropped ",
-        report.examined
-    )?;
-    end(rt, report.dropped)
+fn reported(rt: &impl Print, call: &str, answer: Answer<Report>) -> io::Result<()> {
+    let number = answer::number(&answer);
+    let Report { examined, dropped } = answer.unwrap_or(Report::nothing());
+    println!(rt; "  {call}: {number}, slots examined {examined}, blocks dropped {dropped}")
 }
 
-fn write(
-    rt: &impl Print,
-    store: &mut [u8],
-    memory: &mut [u8],
-    address: u64,
-    n: u64,
-    value: u64,
-) -> io::Result<()> {
-    let answer = write::guest_write(store, memory, address, n, value);
-    text(rt, b"  guest write: ")?;
-    reported(rt, answer)
+// A page of guest memory, and the bytes for a store of four slots over it.
+#[derive(Drop)]
+struct Plant {
+    store: [u8; 4200],
+    memory: [u8; 4096],
 }
 
-// What x10 is loaded with by the block that a lookup shows.
-fn lookup(rt: &impl Print, store: &[u8]) -> io::Result<()> {
-    let part = cache::lookup(store, ROUTINE);
-    if part.len() == 1040 {
-        text(rt, b"  lookup: hit, x10 = ")?;
-        end(rt, bits::doubleword_at(part, 24))
-    } else {
-        text(rt, b"  lookup: ")?;
-        end(rt, cache::find(store, ROUTINE).number())
+impl Plant {
+    // A new store, and the routine that holds the contactor open: formed, inserted and found.
+    fn holding(rt: &impl Print) -> io::Result<Self> {
+        let mut plant = Self {
+            store: [0; 4200],
+            memory: [0; 4096],
+        };
+        let made = cache::make(&mut plant.store, READING, 2, 0, 1);
+        println!(rt; "  make: {}", answer::number(&made))?;
+        plant.write(rt, ROUTINE, 4, HOLD)?;
+        plant.write(rt, ROUTINE + 4, 2, RETURN)?;
+        plant.lookup(rt)?;
+        plant.form_and_insert(rt)?;
+        plant.lookup(rt)?;
+        Ok(plant)
     }
-}
 
-fn form_and_insert(rt: &impl Print, store: &mut [u8], memory: &[u8]) -> io::Result<()> {
-    let mut record = [0u8; 1040];
-    let number = form::form(READING, memory, 0, ROUTINE, &mut record).number();
-    print!(rt; "  form: {number}, x10 = ")?;
-    end(rt, bits::doubleword_at(&record, 24))?;
-    text(rt, b"  insert: ")?;
-    end(rt, cache::insert(store, ROUTINE, &record).number())
-}
+    fn write(&mut self, rt: &impl Print, address: u64, n: u64, value: u64) -> io::Result<()> {
+        let answer = write::guest_write(&mut self.store, &mut self.memory, address, n, value);
+        reported(rt, "guest write", answer)
+    }
 
-// A new store, and the routine that holds the contactor open: formed, inserted and found.
-fn hold(rt: &impl Print, store: &mut [u8], memory: &mut [u8]) -> io::Result<()> {
-    text(rt, b"  make: ")?;
-    end(rt, cache::make(store, READING, 2, 0, 1).number())?;
-    write(rt, store, memory, ROUTINE, 4, HOLD)?;
-    write(rt, store, memory, ROUTINE + 4, 2, RETURN)?;
-    lookup(rt, store)?;
-    form_and_insert(rt, store, memory)?;
-    lookup(rt, store)
+    fn notice(&mut self, rt: &impl Print) -> io::Result<()> {
+        reported(rt, "notice", cache::notice(&mut self.store, ROUTINE))
+    }
+
+    // What x10 is loaded with by the block that a lookup shows.
+    fn lookup(&self, rt: &impl Print) -> io::Result<()> {
+        let part = cache::lookup(&self.store, ROUTINE);
+        if part.len() == 1040 {
+            println!(rt;
+                "  lookup: hit, x10 = {}",
+                bits::doubleword_at(part, LOADED)
+            )
+        } else {
+            let answer = cache::find(&self.store, ROUTINE);
+            println!(rt; "  lookup: {}", answer::number(&answer))
+        }
+    }
+
+    fn form_and_insert(&mut self, rt: &impl Print) -> io::Result<()> {
+        let mut record = [0u8; 1040];
+        let formed = form::form(READING, &self.memory, 0, ROUTINE, &mut record);
+        let x10 = bits::doubleword_at(&record, LOADED);
+        println!(rt; "  form: {}, x10 = {x10}", answer::number(&formed))?;
+        let inserted = cache::insert(&mut self.store, ROUTINE, &record);
+        println!(rt; "  insert: {}", answer::number(&inserted))
+    }
 }
 
 // The loader writes as the guest does: the old block is gone before the new routine is there.
 fn told(rt: &impl Print) -> io::Result<()> {
-    let mut store = [0u8; 4200];
-    let mut memory = [0u8; 4096];
-    text(rt, b"the loader tells the cache\n")?;
-    hold(rt, &mut store, &mut memory)?;
-    write(rt, &mut store, &mut memory, ROUTINE, 4, CLOSE)?;
-    lookup(rt, &store)?;
-    form_and_insert(rt, &mut store, &memory)?;
-    lookup(rt, &store)
+    println!(rt; "the loader tells the cache")?;
+    let mut plant = Plant::holding(rt)?;
+    plant.write(rt, ROUTINE, 4, CLOSE)?;
+    plant.lookup(rt)?;
+    plant.form_and_insert(rt)?;
+    plant.lookup(rt)
 }
 
 // The loader changes the bytes and tells nobody: the theorem's premise fails, and the lookup shows the old block. A notice mends it.
 fn untold(rt: &impl Print) -> io::Result<()> {
-    let mut store = [0u8; 4200];
-    let mut memory = [0u8; 4096];
-    text(rt, b"the loader tells nobody\n")?;
-    hold(rt, &mut store, &mut memory)?;
-    memory[0x102] = 0x10;
-    text(rt, b"  memory changed behind the cache's back\n")?;
-    lookup(rt, &store)?;
-    let answer = cache::notice(&mut store, ROUTINE);
-    text(rt, b"  notice: ")?;
-    reported(rt, answer)?;
-    lookup(rt, &store)?;
-    form_and_insert(rt, &mut store, &memory)?;
-    lookup(rt, &store)
+    println!(rt; "the loader tells nobody")?;
+    let mut plant = Plant::holding(rt)?;
+    plant.memory[0x102] = 0x10;
+    println!(rt; "  memory changed behind the cache's back")?;
+    plant.lookup(rt)?;
+    plant.notice(rt)?;
+    plant.lookup(rt)?;
+    plant.form_and_insert(rt)?;
+    plant.lookup(rt)
 }
 
 fn main(rt: HostRuntime) -> io::Result<()> {

@@ -2,6 +2,9 @@
 // A line of decoding shows a call's number and the lent bytes afterwards, which start as 170s; a line of the ALU the number and the value.
 #![tactic(auto)]
 
+ghost use Rattle.std.specs.Prelude.{◌^◌, ◌<◌};
+
+use answer::Answer;
 use std::io;
 
 // The readings, and a number that is none.
@@ -11,40 +14,39 @@ const MANUAL: u64 = 1;
 
 const NONE: u64 = 2;
 
-fn line(rt: &impl Print, number: u64, lent: &[u8]) -> io::Result<()> {
-    print!(rt; "{number}")?;
-    let mut i = 0;
-    while i < lent.len() {
-        print!(rt; " {}", bits::as_u64(lent[i]))?;
-        i += 1;
+// A call's number, and the N bytes that it was lent.
+fn line<const N: usize, F: FnOnce(&mut [u8]) -> Answer<()>>(
+    rt: &impl Print,
+    call: F,
+) -> io::Result<()>
+    requires callable { F.IsAlwaysCallable call }
+    requires fits { N < 2 ^ 63 }
+{
+    let mut lent = [170u8; N];
+    let answer = call(&mut lent);
+    print!(rt; "{}", answer::number(&answer))?;
+    for byte in lent {
+        print!(rt; " {byte}")?;
     }
     println!(rt;)
 }
 
 fn halfword(rt: &impl Print, reading: u64, raw: u16) -> io::Result<()> {
-    let mut lent = [170u8; 16];
-    let answer = decode::decode_halfword(reading, raw, &mut lent);
-    line(rt, answer.number(), &lent)
+    line::<16, _>(rt, |lent| decode::decode_halfword(reading, raw, lent))
 }
 
 fn word(rt: &impl Print, reading: u64, raw: u32) -> io::Result<()> {
-    let mut lent = [170u8; 16];
-    let answer = decode::decode_word(reading, raw, &mut lent);
-    line(rt, answer.number(), &lent)
+    line::<16, _>(rt, |lent| decode::decode_word(reading, raw, lent))
 }
 
 // A buffer of another length is refused ahead of anything but the reading.
 fn short(rt: &impl Print, reading: u64, raw: u32) -> io::Result<()> {
-    let mut lent = [170u8; 15];
-    let answer = decode::decode_word(reading, raw, &mut lent);
-    line(rt, answer.number(), &lent)
+    line::<15, _>(rt, |lent| decode::decode_word(reading, raw, lent))
 }
 
 fn alu(rt: &impl Print, kind: u64, lhs: u64, rhs: u64) -> io::Result<()> {
     let answer = alu::alu_call(kind, lhs, rhs);
-    let number = answer.number();
-    let value = answer.value();
-    println!(rt; "{number} {value}")
+    println!(rt; "{} {}", answer::number(&answer), answer::value(answer))
 }
 
 fn main(rt: HostRuntime) -> io::Result<()> {
