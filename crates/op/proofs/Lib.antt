@@ -3,4 +3,3 @@ pub mod Fallback
 pub mod Numbers
 pub mod Proper
 pub mod Record
-pub mod Signed
