@@ -109,38 +109,30 @@ pub fn jumps(op: u8) -> bool
 }
 
 // Whether an op record is well formed where it stands: its offset, and how many ops come behind it.
-fn op_placed(record: &[u8], at: usize, left: usize) -> bool
-    requires { length «record».now ≡ 16 }
+#[tactic(auto, unfolding(crate::specs::WellFormed::placed))]
+fn op_placed(record: &[u8; 16], at: usize, left: usize) -> bool
     ensures { result ≡ placed «record».now at left }
 {
-    if op::op_well_formed(record) {
-        if bits::halfword_at(record, 6) as usize != at {
-            return false;
-        }
-        if left == 0 {
-            return true;
-        }
-        return !jumps(record[0]);
-    }
-    false
+    op::op_well_formed(record)
+        && bits::halfword_at(record, 6) as usize == at
+        && (left == 0 || !jumps(record[0]))
 }
 
 fn ops_well_formed(record: &[u8], count: usize, byte_len: usize) -> bool
     requires { (length «record».now ≡ 1040) × (count ≤ 64) }
     ensures { result ≡ ops_well_formed (drop 16 «record».now) count 0 byte_len }
 {
+    let mut rest = &record[BlockRecord::HEAD..];
     let mut at = 0;
-    for i in 0..count {
-        let from = BlockRecord::HEAD + i * OpRecord::LEN;
-        if !op_placed(&record[from..from + OpRecord::LEN], at, count - 1 - i) {
+    for left in (0..count).rev() {
+        let (op, behind) = rest.split_first_chunk().unwrap();
+        if !op_placed(op, at, left) {
             return false;
         }
-        at += usize::from(record[from + 5]);
+        at += usize::from(op[5]);
+        rest = behind;
     }
-    if at != byte_len {
-        return false;
-    }
-    all_zero(&record[BlockRecord::HEAD + count * OpRecord::LEN..])
+    at == byte_len && all_zero(rest)
 }
 
 // Whether bytes are a well-formed block record for an address.

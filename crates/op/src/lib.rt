@@ -347,8 +347,7 @@ fn limits_of(op: u8) -> Limits
     }
 }
 
-fn within(record: &[u8], most: Limits) -> bool
-    requires { length «record».now ≡ 16 }
+fn within(record: &[u8; 16], most: Limits) -> bool
     ensures { result ≡ within «record».now most }
 {
     (record[1] <= most.kind)
@@ -365,8 +364,7 @@ fn ilen_known(op: u8, ilen: u8) -> bool
 }
 
 // Whether sixteen bytes are a record of one op, wherever it stands.
-pub fn op_well_formed(record: &[u8]) -> bool
-    requires { length «record».now ≡ 16 }
+pub fn op_well_formed(record: &[u8; 16]) -> bool
     ensures { result ≡ op_well_formed «record».now }
 {
     let op = record[0];
