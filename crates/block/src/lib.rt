@@ -109,6 +109,7 @@ pub fn jumps(op: u8) -> bool
 }
 
 // Whether an op record is well formed where it stands: its offset, and how many ops come behind it.
+#[tactic(auto, unfolding(crate::specs::WellFormed::placed))]
 fn op_placed(record: &[u8], at: usize, left: usize) -> bool
     requires { length «record».now ≡ 16 }
     ensures { result ≡ placed «record».now at left }
