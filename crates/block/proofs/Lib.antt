@@ -2,6 +2,5 @@
 pub mod Head
 pub mod Places
 pub mod Records
-pub mod Tests
 pub mod Walk
 pub mod Zeros

@@ -89,19 +89,20 @@ module _ (f : List ℕ → List ℕ) (first z : ℕ) (keeps : (p : List ℕ) →
       let w : length (f p) ≡ z = keeps p (length_part (each_place f first z n s) (first + z * n) z (omega arith)) in
       part_behind (each_place f first z n s) (first + z * n) (f p) (first + z * k) z (omega arith) (omega arith) ∙ part_each n k s (omega arith) r
 
--- a loop over n places, after i turns: the first i are made, and `at` is where the next begins
-abbrev pub Walking : (List ℕ → List ℕ) → ℕ → ℕ → ℕ → List ℕ → List ℕ → ℕ → ℕ → Type 0
-Walking make first z n s store i at = (i ≤ n) × (at ≡ first + z * i) × (store ≡ each_place make first z i s) × (length store ≡ length s)
+-- a loop over places, after i turns: the first i are made, and `at` is where the next begins
+abbrev pub Walking : (List ℕ → List ℕ) → ℕ → ℕ → List ℕ → List ℕ → ℕ → ℕ → Type 0
+Walking make first z s store i at = (at ≡ first + z * i) × (store ≡ each_place make first z i s)
 
-pub walking_begins : (make : List ℕ → List ℕ) (first z n : ℕ) (s : List ℕ) → Walking make first z n s s 0 first
+pub walking_begins : (make : List ℕ → List ℕ) (first z : ℕ) (s : List ℕ) → Walking make first z s s 0 first
 unfolding each_place
-walking_begins make first z n s = (omega arith, omega (arith, mul-zero z), refl, refl)
+walking_begins make first z s = (omega (arith, mul-zero z), refl)
 
-pub walking_fits : (make : List ℕ → List ℕ) (first z n : ℕ) (s store : List ℕ) (i at : ℕ) → Walking make first z n s store i at → i < n → first + z * n ≤ length s → at + z ≤ length store
-walking_fits make first z n s store i at w h f = let next = after z i n h in omega (arith, w.1, w.3)
+-- the next place lies within the list
+pub next_fits : (first z n i at len : ℕ) → at ≡ first + z * i → i < n → first + z * n ≤ len → at + z ≤ len
+next_fits first z n i at len w h f = omega (arith, after z i n h)
 
 -- a loop that also counts the places in a page: after one more turn
-module _ (page first z n : ℕ) (s store : List ℕ) (i at dropped : ℕ) (w : Walking (emptied page) first z n s store i at) (lt : i < n) where
+module _ (page first z n : ℕ) (s store : List ℕ) (i at dropped : ℕ) (w : Walking (emptied page) first z s store i at) (lt : i < n) where
   pub counting : 8 ≤ z → first + z * n ≤ length s → dropped ≡ places_in page first z i s → dropped + cond (in_page page (part store at z)) 1 0 ≡ places_in page first z (i + 1) s
   unfolding count
   counting room fits e = rw (add-one i) (ap₂ ◌+◌ e (ap (λ (p : List ℕ). cond (in_page page p) 1 0) here))
@@ -110,7 +111,7 @@ module _ (page first z n : ℕ) (s store : List ℕ) (i at dropped : ℕ) (w : W
       next = omega (arith, after z i n lt)
 
       here : part store at z ≡ part s (first + z * i) z
-      here = ap₂ (λ (t : List ℕ) (k : ℕ). part t k z) w.2 w.1 ∙ part_each (emptied page) first z (λ p l. length-emptied page p (rw l room) ∙ l) i i s (omega arith) next
+      here = ap₂ (λ (t : List ℕ) (k : ℕ). part t k z) w.1 w.0 ∙ part_each (emptied page) first z (λ p l. length-emptied page p (rw l room) ∙ l) i i s (omega arith) next
 
 pub length-copies : (n : ℕ) (p : List ℕ) (z : ℕ) → length p ≡ z → length (copies n p) ≡ z * n
 unfolding copies

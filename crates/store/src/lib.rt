@@ -183,6 +183,7 @@ pub fn page_bit(store: &[u8], page: u64) -> bool
     (u64::from(store[i]) >> (page % 8)) % 2 == 1
 }
 
+#[tactic(auto, unfolding(crate::specs::Places::put_bit))]
 fn put_bit(byte: u8, k: u64, on: bool) -> u8
     requires { k < 8 }
     ensures { result ≡ put_bit on k byte }
@@ -192,6 +193,7 @@ fn put_bit(byte: u8, k: u64, on: bool) -> u8
 }
 
 // The page's bit becomes `on`.
+#[tactic(auto, unfolding(crate::specs::Places::with_bit))]
 pub fn set_bit(store: &mut [u8], page: u64, on: bool)
     requires { header_len + page / 8 < length store.old }
     ensures { store.new ≡ with_bit store.old page on }
@@ -209,6 +211,7 @@ pub fn generation(store: &[u8]) -> u64
 }
 
 // The generation goes one up.
+#[tactic(auto, unfolding(crate::specs::Layout::bumped))]
 pub fn bump(store: &mut [u8])
     requires { header_len ≤ length store.old }
     ensures { store.new ≡ bumped store.old }
@@ -226,6 +229,7 @@ fn empty(place: &mut [u8])
 }
 
 // The count of places dropped so far, with this one if it is emptied. Passed on like this, it costs a place that stays no instruction.
+#[tactic(auto, unfolding(crate::specs::Places::emptied))]
 fn empty_if(place: &mut [u8], page: u64, dropped: u64) -> u64
     requires { (8 ≤ length place.old) × (dropped + 1 < 2 ^ 64) }
     ensures { (result ≡ dropped + (if in_page page place.old then 1 else 0)) × (place.new ≡ emptied page place.old) }
