@@ -1,8 +1,8 @@
 -- Turns of the loop over eight bytes.
 -- Assumes nothing.
-use Rattle.std.proofs.Common.{◌≡◌, ℕ, zero, suc, ◌+◌, ◌*◌, ◌/◌, ◌%◌, ◌^◌, ◌<◌, Bool, true, false, cond, eqb, sym, refl, ap, ◌∙◌, subst, ap₂, lt_of_lt_of_le, mod-lt, mul_comm, add-one, arith, lit<, pow_mono, pow-add, shl_exact}
+use Rattle.std.proofs.Common.{◌≡◌, ℕ, zero, suc, ◌+◌, ◌*◌, ◌/◌, ◌%◌, ◌^◌, ◌<◌, Bool, true, false, cond, eqb, sym, refl, ap, ◌∙◌, subst, ap₂, mod-lt, mul_comm, add-one, arith, lit<, pow-add, shl_exact}
 use lib.Arith.{digits_lt}
-use lib.Bits.{bit_and, bit_or, and_mask, or_shifted, or_shifted_r}
+use lib.Bits.{bit_and, bit_or, and_mask, or_shifted_r}
 use Rattle.bits.specs.Bits.{bits_at}
 use Rattle.alu.specs.Rust.{swapped, spread, orced}
 

@@ -1,7 +1,7 @@
 -- The library's rotations and its swap of bytes are those of the Rust reading.
 -- Assumes nothing.
-use Rattle.std.proofs.Common.{◌≡◌, ℕ, zero, suc, ◌+◌, ◌-◌, ◌*◌, ◌/◌, ◌%◌, ◌^◌, ◌≤◌, ◌<◌, sym, ap, ap₂, ◌∙◌, arith}
-use native.Mathlib.Nat.{mod-eq_of_lt, mod_self, sub-zero, mul-one, div-one, div-div-eq-div-mul}
+use Rattle.std.proofs.Common.{◌≡◌, ℕ, zero, suc, ◌-◌, ◌*◌, ◌/◌, ◌%◌, ◌^◌, ◌<◌, sym, ap, ap₂, ◌∙◌, arith}
+use native.Mathlib.Nat.{mod-eq_of_lt, mod_self, sub-zero, mul-one, div-one}
 use lib.Bits.{bit_or, or_self}
 use Rattle.std.specs.Int.{w64, swap_bytes}
 use Rattle.std.proofs.lemmas.Nat.{or_comm}

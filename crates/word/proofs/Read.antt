@@ -1,7 +1,7 @@
 -- What the Rust reading of a word never gives: a Fallback, or an op where the low bits are not 11.
 -- Assumes nothing.
 use mathlib.Core.Path.{◌≡◌, refl}
-use mathlib.Core.Bool.{Bool, true, false, ◌||◌}
+use mathlib.Core.Bool.{false, ◌||◌}
 use Prim.Native.Nat.{ℕ, ◌%◌}
 use native.Mathlib.Omega.{arith}
 use lib.Dec.{T, eqb}

@@ -3,7 +3,6 @@
 use Rattle.std.specs.Prelude.{ℕ, ◌+◌, ◌*◌, ◌/◌, ◌%◌, List, [], ◌∷◌, pos, Option, Some, None, option_map}
 use Rattle.bits.specs.Match.{Row, ◌⇒◌, case}
 use Rattle.op.specs.declared.Op.{Op}
-use Rattle.op.specs.declared.Op.TheVariants as Op
 use Rattle.op.specs.declared.BranchKind.TheVariants.{Beq, Bne, Blt, Bge, Bltu, Bgeu}
 use Rattle.op.specs.declared.LoadKind.TheVariants.{Lb, Lbu, Lh, Lhu, Lw, Lwu, Ld}
 use Rattle.op.specs.declared.StoreKind.TheVariants.{Sb, Sh, Sw, Sd}

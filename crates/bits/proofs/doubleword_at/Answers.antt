@@ -1,5 +1,5 @@
 -- `bits::doubleword_at` meets its contract: the library reads the same bytes.
-use Rattle.std.proofs.Common.{◌∙◌, ap, ℕ, List}
+use Rattle.std.proofs.Common.{◌∙◌, ap}
 use Rattle.std.specs.Int.{w64, from_le_bytes}
 use Rattle.bits.proofs.Bytes.{doubleword_of_part}
 use Rattle.bits.proofs.doubleword_at.Goals as goal

@@ -1,5 +1,5 @@
 -- `bits::halfword_at` meets its contract: the library reads the same bytes.
-use Rattle.std.proofs.Common.{◌∙◌, ap, ℕ, List}
+use Rattle.std.proofs.Common.{◌∙◌, ap}
 use Rattle.std.specs.Int.{w16, from_le_bytes}
 use Rattle.bits.proofs.Bytes.{halfword_of_part}
 use Rattle.bits.proofs.halfword_at.Goals as goal

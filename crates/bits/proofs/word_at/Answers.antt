@@ -1,5 +1,5 @@
 -- `bits::word_at` meets its contract: the library reads the same bytes.
-use Rattle.std.proofs.Common.{◌∙◌, ap, ℕ, List}
+use Rattle.std.proofs.Common.{◌∙◌, ap}
 use Rattle.std.specs.Int.{w32, from_le_bytes}
 use Rattle.bits.proofs.Bytes.{word_of_part}
 use Rattle.bits.proofs.word_at.Goals as goal

@@ -1,5 +1,5 @@
 -- `block::ops_well_formed` meets its contract: the ops that are left decide as all of them do.
-use Rattle.std.proofs.Common.{◌≡◌, refl, sym, ◌∙◌, arith}
+use Rattle.std.proofs.Common.{refl, sym, ◌∙◌, arith}
 use Rattle.std.proofs.lemmas.Option.{MatchOption-at_some}
 use borrow.Author.Tests.{eq-eqb, ne_eqb}
 use Rattle.block.proofs.Walk.{walk_step, walk_end, placed_short}
