@@ -28,8 +28,8 @@ some_record address (first ∷ rest) old some = refl
 
 -- the records, zeros behind them, and then the head
 pub sealed : (address : ℕ) (ops : List Insn) (old lent zeros : List ℕ) (n len : ℕ) → (n ≡ 0 → ⊥) → length old ≡ 1040 → Written ops old lent n len
-    → zeros ≡ replicate (length (mid_of (16 + n * 16) (length lent - (16 + n * 16)) lent)) 0
-    → (done, patch (put_mid (16 + n * 16) (length lent - (16 + n * 16)) lent zeros) 0 (head_bytes address n len)) ≡ formed_into done address ops old
+    → zeros ≡ replicate (length (mid_of (16 + n * 16) (1040 - (16 + n * 16)) lent)) 0
+    → (done, patch (put_mid (16 + n * 16) (1040 - (16 + n * 16)) lent zeros) 0 (head_bytes address n len)) ≡ formed_into done address ops old
 unfolding block_record patch le
 sealed address ops old lent zeros n len some l w z =
     let recs = op_records 0 ops in
@@ -42,10 +42,10 @@ sealed address ops old lent zeros n len some l w z =
     let both_long : length (front ++ recs) ≡ 16 + n * 16 = simp length-append (omega arith) in
     let lent_is : lent ≡ (front ++ recs) ++ tail = w.written ∙ sym (append_assoc front recs tail) in
     let written : take (16 + n * 16) lent ≡ front ++ recs = ap (take (16 + n * 16)) lent_is ∙ take_at (front ++ recs) tail (16 + n * 16) both_long in
-    let none : drop (length lent - (16 + n * 16)) (drop (16 + n * 16) lent) ≡ [] = drop_of_length-le (drop (16 + n * 16) lent) {i = length lent - (16 + n * 16)} (simp length-drop (omega arith)) in
-    let mid : length (mid_of (16 + n * 16) (length lent - (16 + n * 16)) lent) ≡ length lent - (16 + n * 16) = mid_len (16 + n * 16) (length lent) lent (omega arith) in
-    let unused : length lent - (16 + n * 16) ≡ 1024 - 16 * length ops = omega arith in
+    let none : drop (1040 - (16 + n * 16)) (drop (16 + n * 16) lent) ≡ [] = drop_of_length-le (drop (16 + n * 16) lent) {i = 1040 - (16 + n * 16)} (simp length-drop (omega arith)) in
+    let mid : length (mid_of (16 + n * 16) (1040 - (16 + n * 16)) lent) ≡ 1040 - (16 + n * 16) = mid_len (16 + n * 16) 1040 lent (omega arith) in
+    let unused : 1040 - (16 + n * 16) ≡ 1024 - 16 * length ops = omega arith in
     let zeros_are : zeros ≡ replicate (1024 - 16 * length ops) 0 = z ∙ ap (λ (k : ℕ). replicate k 0) (mid ∙ unused) in
-    let body : drop 16 (put_mid (16 + n * 16) (length lent - (16 + n * 16)) lent zeros) ≡ recs ++ replicate (1024 - 16 * length ops) 0 =
+    let body : drop 16 (put_mid (16 + n * 16) (1040 - (16 + n * 16)) lent zeros) ≡ recs ++ replicate (1024 - 16 * length ops) 0 =
     rw (written, none, append-nil zeros, append_assoc front recs zeros, zeros_are) (drop_at front (recs ++ replicate (1024 - 16 * length ops) 0) 16 front_long) in
     rw (body, many, w.ended) (some_record address ops old (λ e. some (many ∙ e)))

@@ -72,8 +72,8 @@ fn fetch(reading: u64, s: &[u8], at: usize, lent: &mut [u8], place: usize) -> Op
 }
 
 // The ops of the block whose bytes start s, each through its part of the lent record; its other bytes stay.
-fn form_ops(reading: u64, s: &[u8], lent: &mut [u8]) -> BlockRecord
-    requires { (length s.now ≤ 4096) × (length lent.old ≡ 1040) }
+fn form_ops(reading: u64, s: &[u8], lent: &mut [u8; 1040]) -> BlockRecord
+    requires { length s.now ≤ 4096 }
     ensures { Written (ops_from (reading_of reading) s.now 64 0) lent.old lent.new result.count result.len }
 {
     let mut at = 0;
@@ -97,8 +97,8 @@ fn form_ops(reading: u64, s: &[u8], lent: &mut [u8]) -> BlockRecord
 }
 
 // The block whose bytes start s. Without an op no byte is written.
-fn form_rest(reading: u64, s: &[u8], address: u64, lent: &mut [u8]) -> Answer<()>
-    requires { (length s.now ≤ 4096) × (length lent.old ≡ 1040) }
+fn form_rest(reading: u64, s: &[u8], address: u64, lent: &mut [u8; 1040]) -> Answer<()>
+    requires { length s.now ≤ 4096 }
     ensures { (result, lent.new) ≡ formed_into done address (ops_from (reading_of reading) s.now 64 0) lent.old }
 {
     let block = form_ops(reading, s, lent);
@@ -139,5 +139,10 @@ pub fn form(reading: u64, memory: &[u8], base: u64, address: u64, lent: &mut [u8
     judge_form(reading, memory.len() as u64, lent.len(), base, address)?;
     let from = (address - base) as usize;
     let to = from + (block::PAGE - address % block::PAGE) as usize;
-    form_rest(reading, &memory[from..to], address, lent)
+    form_rest(
+        reading,
+        &memory[from..to],
+        address,
+        lent.first_chunk_mut().unwrap(),
+    )
 }

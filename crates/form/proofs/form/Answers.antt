@@ -1,9 +1,13 @@
 -- `form::form` meets its contract: judged first, and then formed from the bytes from the address to the end of its page.
-use Rattle.std.proofs.Common.{◌≡◌, ◌+◌, ◌-◌, ◌%◌, ℕ, List, length, take, drop, sym, ap, ◌∙◌, arith}
+use Rattle.std.proofs.Common.{◌≡◌, ◌≤◌, ◌+◌, ◌-◌, ◌%◌, ℕ, List, length, take, drop, sym, ap, ◌∙◌, arith}
 use Rattle.block.proofs.Places.{GoodMemory, good_memory_lem, held, rest_is}
 use Rattle.reading.specs.Readings.{reading_of}
 use Rattle.form.specs.Forming.{ops_from}
 use Rattle.form.specs.Call.{form_judged, formed_into, form_call}
+use Rattle.std.proofs.lemmas.Option.{MatchOption-at_some}
+use mathlib.Core.List.{[], append-nil}
+use lib.ListN.{drop_of_length-le}
+use lib.Seq.{take_all}
 use Rattle.form.proofs.Judged.{begun}
 use Rattle.form.proofs.form.Goals as goal
 use Rattle.answer.specs.Answer.{done}
@@ -20,5 +24,10 @@ returns c =
     let from = a.address - a.base in
     let width : from + (4096 - a.address % 4096) - from ≡ 4096 - a.address % 4096 = omega arith in
     let bytes = ap (λ (n : ℕ). take n (drop from a.memory.now)) width ∙ rest_is a.memory.now a.base a.address good.based h.0 (omega arith) in
-    rw judged
-    (c.form_rest.ensures ∙ ap (λ (s : List ℕ). formed_into done a.address (ops_from (reading_of a.reading) s 64 0) a.lent.now) bytes)
+    let chunk = MatchOption-at_some _ _ _ c.unwrap.ensures c.first_chunk_mut.ensures.cases in
+    let same : c.unwrap.result.now ≡ a.lent.now = chunk.same ∙ take_all 1040 a.lent.now (omega (arith, b.whole)) in
+    let none : drop 1040 a.lent.now ≡ [] = (let long : length a.lent.now ≤ 1040 = omega (arith, b.whole) in drop_of_length-le a.lent.now long) in
+    rw (judged, none, append-nil)
+    (c.form_rest.ensures
+    ∙ ap (λ (lent : List ℕ). formed_into done a.address (ops_from (reading_of a.reading) (take (from + (4096 - a.address % 4096) - from) (drop from a.memory.now)) 64 0) lent) same
+    ∙ ap (λ (s : List ℕ). formed_into done a.address (ops_from (reading_of a.reading) s 64 0) a.lent.now) bytes)

@@ -18,4 +18,4 @@ returns c =
     let ops = c.form_ops-block in
     ap (λ (s : List ℕ). (done, s)) c.put_head.ensures
     ∙ sealed a.address (ops_from (reading_of a.reading) a.s.now 64 0) a.lent.now ops.new.lent c.fill.new.self
-    ops.result.count ops.result.len c.if-count-eq0.false c.requires.1 ops.ensures (c.fill.ensures.after (λ y e. e))
+    ops.result.count ops.result.len c.if-count-eq0.false c.told-lent ops.ensures (c.fill.ensures.after (λ y e. e))
