@@ -2,7 +2,7 @@
 #![tactic(auto)]
 
 ghost use Rattle.std.specs.Prelude.{◌≡◌, ◌+◌, ◌<◌, ◌≤◌, ◌^◌, length};
-ghost use Rattle.bits.specs.Bits.{signed};
+ghost use Rattle.bits.specs.Bits.{bits_at, signed};
 ghost use Rattle.bits.specs.Bytes.{le, part, patch, halfword_at, word_at, doubleword_at};
 
 // The low `bits` bits as a signed number. The Rust shifts left and back; the top bit decides here.
@@ -16,6 +16,14 @@ pub fn sign_extend(val: u64, bits: u32) -> i64
     } else {
         (val as i64) - (whole as i64)
     }
+}
+
+// The N bits of a number from bit AT up.
+pub fn field<const AT: u32, const N: u32>(x: u32) -> u32
+    requires { (AT < 32) × (N < 32) }
+    ensures { result ≡ bits_at x AT N }
+{
+    (x >> AT) % (1 << N)
 }
 
 // The N bytes from an offset on.

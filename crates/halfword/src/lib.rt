@@ -9,6 +9,7 @@ ghost use Rattle.bits.specs.Match.{case};
 ghost use Rattle.halfword.specs.Halfword.{nzuimm_addi4spn, uimm_lw, uimm_ld, imm6, imm_addi16sp, imm_lui, off_j, off_b, uimm_lwsp, uimm_ldsp, uimm_swsp, uimm_sdsp};
 ghost use Rattle.halfword.specs.Halfword.{prime_reg, prime_rows, prime_imm, half_at, rust_half};
 
+use bits::field;
 use instruction::CompressedInstruction;
 use op::{AluKind, BranchKind, LoadKind, Op, StoreKind};
 
@@ -16,60 +17,68 @@ impl CompressedInstruction {
     fn nzuimm_addi4spn(self) -> u32
         ensures { result ≡ nzuimm_addi4spn self.0 }
     {
-        let raw = self.0 as u32;
-        raw / 0x40 % 2 * 4 + raw / 0x20 % 2 * 8 + raw / 0x800 % 4 * 0x10 + raw / 0x80 % 0x10 * 0x40
+        let raw = u32::from(self.0);
+        field::<6, 1>(raw) * 4
+            + field::<5, 1>(raw) * 8
+            + field::<11, 2>(raw) * 0x10
+            + field::<7, 4>(raw) * 0x40
     }
 
     // C.LW, C.SW
     fn uimm_lw(self) -> i64
         ensures { result ≡ pos (uimm_lw self.0) }
     {
-        let raw = self.0 as u32;
-        i64::from(raw / 0x40 % 2 * 4 + raw / 0x400 % 8 * 8 + raw / 0x20 % 2 * 0x40)
+        let raw = u32::from(self.0);
+        i64::from(field::<6, 1>(raw) * 4 + field::<10, 3>(raw) * 8 + field::<5, 1>(raw) * 0x40)
     }
 
     // C.LD, C.SD
     fn uimm_ld(self) -> i64
         ensures { result ≡ pos (uimm_ld self.0) }
     {
-        let raw = self.0 as u32;
-        i64::from(raw / 0x400 % 8 * 8 + raw / 0x20 % 4 * 0x40)
+        let raw = u32::from(self.0);
+        i64::from(field::<10, 3>(raw) * 8 + field::<5, 2>(raw) * 0x40)
+    }
+
+    fn six_bits(self) -> u32
+        ensures { result ≡ imm6 self.0 }
+    {
+        let raw = u32::from(self.0);
+        field::<12, 1>(raw) * 0x20 + field::<2, 5>(raw)
     }
 
     // C.ADDI, C.ADDIW, C.LI, C.ANDI
     fn imm6(self) -> i64
         ensures { result ≡ signed 6 (imm6 self.0) }
     {
-        let raw = self.0 as u32;
-        bits::sign_extend((raw / 0x1000 % 2 * 0x20 + raw / 4 % 0x20) as u64, 6)
+        bits::sign_extend(u64::from(self.six_bits()), 6)
     }
 
     // C.SRLI, C.SRAI, C.SLLI
     fn shamt(self) -> i64
         ensures { result ≡ pos (imm6 self.0) }
     {
-        let raw = self.0 as u32;
-        i64::from(raw / 0x1000 % 2 * 0x20 + raw / 4 % 0x20)
+        i64::from(self.six_bits())
     }
 
     fn imm_addi16sp(self) -> i64
         ensures { result ≡ signed 10 (imm_addi16sp self.0) }
     {
-        let raw = self.0 as u32;
-        let val = raw / 0x1000 % 2 * 0x200
-            + raw / 0x40 % 2 * 0x10
-            + raw / 0x20 % 2 * 0x40
-            + raw / 8 % 4 * 0x80
-            + raw / 4 % 2 * 0x20;
+        let raw = u32::from(self.0);
+        let val = field::<12, 1>(raw) * 0x200
+            + field::<6, 1>(raw) * 0x10
+            + field::<5, 1>(raw) * 0x40
+            + field::<3, 2>(raw) * 0x80
+            + field::<2, 1>(raw) * 0x20;
         bits::sign_extend(val as u64, 10)
     }
 
     fn imm_lui(self) -> i64
         ensures { result ≡ signed 18 (imm_lui self.0) }
     {
-        let raw = self.0 as u32;
+        let raw = u32::from(self.0);
         bits::sign_extend(
-            (raw / 0x1000 % 2 * 0x2_0000 + raw / 4 % 0x20 * 0x1000) as u64,
+            (field::<12, 1>(raw) * 0x2_0000 + field::<2, 5>(raw) * 0x1000) as u64,
             18,
         )
     }
@@ -77,15 +86,15 @@ impl CompressedInstruction {
     fn off_j(self) -> i64
         ensures { result ≡ signed 12 (off_j self.0) }
     {
-        let r = self.0 as u32;
-        let val = r / 0x1000 % 2 * 0x800
-            + r / 0x800 % 2 * 0x10
-            + r / 0x200 % 4 * 0x100
-            + r / 0x100 % 2 * 0x400
-            + r / 0x80 % 2 * 0x40
-            + r / 0x40 % 2 * 0x80
-            + r / 8 % 8 * 2
-            + r / 4 % 2 * 0x20;
+        let r = u32::from(self.0);
+        let val = field::<12, 1>(r) * 0x800
+            + field::<11, 1>(r) * 0x10
+            + field::<9, 2>(r) * 0x100
+            + field::<8, 1>(r) * 0x400
+            + field::<7, 1>(r) * 0x40
+            + field::<6, 1>(r) * 0x80
+            + field::<3, 3>(r) * 2
+            + field::<2, 1>(r) * 0x20;
         bits::sign_extend(val as u64, 12)
     }
 
@@ -93,41 +102,41 @@ impl CompressedInstruction {
     fn off_b(self) -> i64
         ensures { result ≡ signed 9 (off_b self.0) }
     {
-        let r = self.0 as u32;
-        let val = r / 0x1000 % 2 * 0x100
-            + r / 0x400 % 4 * 8
-            + r / 0x20 % 4 * 0x40
-            + r / 8 % 4 * 2
-            + r / 4 % 2 * 0x20;
+        let r = u32::from(self.0);
+        let val = field::<12, 1>(r) * 0x100
+            + field::<10, 2>(r) * 8
+            + field::<5, 2>(r) * 0x40
+            + field::<3, 2>(r) * 2
+            + field::<2, 1>(r) * 0x20;
         bits::sign_extend(val as u64, 9)
     }
 
     fn uimm_lwsp(self) -> i64
         ensures { result ≡ pos (uimm_lwsp self.0) }
     {
-        let raw = self.0 as u32;
-        i64::from(raw / 0x1000 % 2 * 0x20 + raw / 0x10 % 8 * 4 + raw / 4 % 4 * 0x40)
+        let raw = u32::from(self.0);
+        i64::from(field::<12, 1>(raw) * 0x20 + field::<4, 3>(raw) * 4 + field::<2, 2>(raw) * 0x40)
     }
 
     fn uimm_ldsp(self) -> i64
         ensures { result ≡ pos (uimm_ldsp self.0) }
     {
-        let raw = self.0 as u32;
-        i64::from(raw / 0x1000 % 2 * 0x20 + raw / 0x20 % 4 * 8 + raw / 4 % 8 * 0x40)
+        let raw = u32::from(self.0);
+        i64::from(field::<12, 1>(raw) * 0x20 + field::<5, 2>(raw) * 8 + field::<2, 3>(raw) * 0x40)
     }
 
     fn uimm_swsp(self) -> i64
         ensures { result ≡ pos (uimm_swsp self.0) }
     {
-        let raw = self.0 as u32;
-        i64::from(raw / 0x200 % 0x10 * 4 + raw / 0x80 % 4 * 0x40)
+        let raw = u32::from(self.0);
+        i64::from(field::<9, 4>(raw) * 4 + field::<7, 2>(raw) * 0x40)
     }
 
     fn uimm_sdsp(self) -> i64
         ensures { result ≡ pos (uimm_sdsp self.0) }
     {
-        let raw = self.0 as u32;
-        i64::from(raw / 0x400 % 8 * 8 + raw / 0x80 % 8 * 0x40)
+        let raw = u32::from(self.0);
+        i64::from(field::<10, 3>(raw) * 8 + field::<7, 3>(raw) * 0x40)
     }
 }
 
@@ -183,8 +192,8 @@ fn prime_reg(kind: AluKind, c: CompressedInstruction) -> Option<Op>
 fn c_prime(c: CompressedInstruction) -> Option<Op>
     ensures { result ≡ case (bits_at c.0 12 1 * 4 + bits_at c.0 5 2) (prime_rows c.0) None }
 {
-    let key = c.0 / 0x1000 % 2 * 4 + c.0 / 0x20 % 4;
-    match key {
+    let raw = u32::from(c.0);
+    match field::<12, 1>(raw) * 4 + field::<5, 2>(raw) {
         0 => prime_reg(AluKind::Sub, c),
         1 => prime_reg(AluKind::Xor, c),
         2 => prime_reg(AluKind::Or, c),
@@ -210,8 +219,7 @@ fn prime_imm(kind: AluKind, c: CompressedInstruction, imm: i64) -> Option<Op>
 fn c_misc(c: CompressedInstruction) -> Option<Op>
     ensures { result ≡ half_at 0x14 c.0 }
 {
-    let kind = c.0 / 0x400 % 4;
-    match kind {
+    match field::<10, 2>(u32::from(c.0)) {
         0 => prime_imm(AluKind::Srl, c, c.shamt()), // C.SRLI
         1 => prime_imm(AluKind::Sra, c, c.shamt()), // C.SRAI
         2 => prime_imm(AluKind::And, c, c.imm6()), // C.ANDI
@@ -224,8 +232,7 @@ fn c_jr_mv_add(c: CompressedInstruction) -> Option<Op>
 {
     let rd = c.rd();
     let rs2 = c.rs2();
-    let bit12 = c.0 / 0x1000 % 2;
-    if bit12 == 0 {
+    if field::<12, 1>(u32::from(c.0)) == 0 {
         if rs2 == 0 {
             // C.JR
             Some(Op::Jalr {

@@ -10,6 +10,7 @@ ghost use Rattle.agree.specs.Differences.{listed, half_entries};
 ghost use Rattle.reading.specs.Readings.{reading_of};
 ghost use Rattle.reading.specs.Apart.{or_rust};
 
+use bits::field;
 use halfword::instruction::CompressedInstruction;
 use op::{AluKind, Op};
 use word::instruction::Instruction;
@@ -23,7 +24,9 @@ fn imm_apart(inst: Instruction) -> Option<Option<Op>>
 {
     let rd = inst.rd();
     let rs1 = inst.rs1();
-    match inst.funct3() * 0x1_0000 + inst.0 / 0x10_0000 % 0x1000 * 0x10 + inst.0 % 4 {
+    let top = field::<20, 12>(inst.0);
+    let low = field::<0, 2>(inst.0);
+    match inst.funct3() * 0x1_0000 + top * 0x10 + low {
         0x1_6043 => Some(Some(Op::AluImm {
             kind: AluKind::SextB,
             rd,
@@ -65,7 +68,8 @@ fn reg_apart(inst: Instruction) -> Option<Option<Op>>
     let rd = inst.rd();
     let rs1 = inst.rs1();
     let rs2 = inst.rs2();
-    match inst.funct3() * 0x1_0000 + inst.funct7() * 0x10 + inst.0 % 4 {
+    let low = field::<0, 2>(inst.0);
+    match inst.funct3() * 0x1_0000 + inst.funct7() * 0x10 + low {
         0x5_0053 => Some(Some(Op::AluReg {
             kind: AluKind::Minu,
             rd,
@@ -91,7 +95,7 @@ fn word_apart(reading: u64, raw: u32) -> Option<Option<Op>>
         return None;
     }
     let inst = Instruction(raw);
-    match raw / 4 % 0x20 {
+    match field::<2, 5>(raw) {
         0x4 => imm_apart(inst),
         0xc => reg_apart(inst),
         _ => None,
@@ -103,7 +107,8 @@ fn reserved(c: CompressedInstruction) -> bool
     ensures { result ≡ listed half_entries c.0 }
 {
     let rd = c.rd();
-    let no_imm = (c.0 / 0x1000 % 2 == 0) & (c.0 / 4 % 0x20 == 0);
+    let raw = u32::from(c.0);
+    let no_imm = (field::<12, 1>(raw) == 0) & (field::<2, 5>(raw) == 0);
     match c.quadrant() * 0x10 + c.funct3() {
         0x11 => rd == 0, // C.ADDIW
         0x13 => no_imm, // C.ADDI16SP, C.LUI

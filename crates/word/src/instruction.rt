@@ -2,6 +2,8 @@
 ghost use Rattle.std.specs.Prelude.{◌≡◌, pos};
 ghost use Rattle.word.specs.Instruction.{opcode, rd, rs1, rs2, funct3, funct7, imm_i, imm_s, imm_b, imm_u, imm_j, shamt6, shamt5};
 
+use bits::field;
+
 #[derive(Clone, Copy)]
 pub struct Instruction(pub u32);
 
@@ -9,52 +11,52 @@ impl Instruction {
     pub fn opcode(self) -> u32
         ensures { result ≡ opcode self.0 }
     {
-        self.0 % 0x80
+        field::<0, 7>(self.0)
     }
 
     pub fn rd(self) -> u8
         ensures { result ≡ rd self.0 }
     {
-        (self.0 / 0x80 % 0x20) as u8
+        field::<7, 5>(self.0) as u8
     }
 
     pub fn rs1(self) -> u8
         ensures { result ≡ rs1 self.0 }
     {
-        (self.0 / 0x8000 % 0x20) as u8
+        field::<15, 5>(self.0) as u8
     }
 
     pub fn rs2(self) -> u8
         ensures { result ≡ rs2 self.0 }
     {
-        (self.0 / 0x10_0000 % 0x20) as u8
+        field::<20, 5>(self.0) as u8
     }
 
     pub fn funct3(self) -> u32
         ensures { result ≡ funct3 self.0 }
     {
-        self.0 / 0x1000 % 8
+        field::<12, 3>(self.0)
     }
 
     pub fn funct7(self) -> u32
         ensures { result ≡ funct7 self.0 }
     {
-        self.0 / 0x200_0000 % 0x80
+        field::<25, 7>(self.0)
     }
 
     // I-type immediate
     pub fn imm_i(self) -> i64
         ensures { result ≡ imm_i self.0 }
     {
-        bits::sign_extend((self.0 / 0x10_0000 % 0x1000) as u64, 12)
+        bits::sign_extend(u64::from(field::<20, 12>(self.0)), 12)
     }
 
     // S-type immediate
     pub fn imm_s(self) -> i64
         ensures { result ≡ imm_s self.0 }
     {
-        let hi = self.0 / 0x200_0000 % 0x80;
-        let lo = self.0 / 0x80 % 0x20;
+        let hi = field::<25, 7>(self.0);
+        let lo = field::<7, 5>(self.0);
         bits::sign_extend((hi * 0x20 + lo) as u64, 12)
     }
 
@@ -63,10 +65,10 @@ impl Instruction {
         ensures { result ≡ imm_b self.0 }
     {
         let raw = self.0;
-        let bit12 = raw / 0x8000_0000 % 2;
-        let bit11 = raw / 0x80 % 2;
-        let bits10_5 = raw / 0x200_0000 % 0x40;
-        let bits4_1 = raw / 0x100 % 0x10;
+        let bit12 = field::<31, 1>(raw);
+        let bit11 = field::<7, 1>(raw);
+        let bits10_5 = field::<25, 6>(raw);
+        let bits4_1 = field::<8, 4>(raw);
         let val = bit12 * 0x1000 + bit11 * 0x800 + bits10_5 * 0x20 + bits4_1 * 2;
         bits::sign_extend(val as u64, 13)
     }
@@ -75,7 +77,7 @@ impl Instruction {
     pub fn imm_u(self) -> i64
         ensures { result ≡ imm_u self.0 }
     {
-        bits::sign_extend((self.0 / 0x1000 % 0x10_0000 * 0x1000) as u64, 32)
+        bits::sign_extend((field::<12, 20>(self.0) * 0x1000) as u64, 32)
     }
 
     // J-type immediate
@@ -83,10 +85,10 @@ impl Instruction {
         ensures { result ≡ imm_j self.0 }
     {
         let raw = self.0;
-        let bit20 = raw / 0x8000_0000 % 2;
-        let bits10_1 = raw / 0x20_0000 % 0x400;
-        let bit11 = raw / 0x10_0000 % 2;
-        let bits19_12 = raw / 0x1000 % 0x100;
+        let bit20 = field::<31, 1>(raw);
+        let bits10_1 = field::<21, 10>(raw);
+        let bit11 = field::<20, 1>(raw);
+        let bits19_12 = field::<12, 8>(raw);
         let val = bit20 * 0x10_0000 + bits19_12 * 0x1000 + bit11 * 0x800 + bits10_1 * 2;
         bits::sign_extend(val as u64, 21)
     }
@@ -95,12 +97,12 @@ impl Instruction {
     pub fn shamt6(self) -> i64
         ensures { result ≡ pos (shamt6 self.0) }
     {
-        i64::from(self.0 / 0x10_0000 % 0x40)
+        i64::from(field::<20, 6>(self.0))
     }
 
     pub fn shamt5(self) -> i64
         ensures { result ≡ pos (shamt5 self.0) }
     {
-        i64::from(self.0 / 0x10_0000 % 0x20)
+        i64::from(field::<20, 5>(self.0))
     }
 }

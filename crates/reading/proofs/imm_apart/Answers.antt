@@ -24,55 +24,55 @@ says w e = sym e ∙ sym (manual-is w)
 pub returns-in-90179 : goal.returns-in-90179
 returns-in-90179 c =
     let w = c.args.inst.0 in
-    let k = fields w c.funct3.result c.funct3.ensures c.requires 1 0x604 (lit< tt) c.in-90179.is in
+    let k = fields w c.funct3.result c.funct3.ensures c.requires 1 0x604 (lit< tt) (omega (arith, c.field-top.ensures, c.field-low.ensures, c.in-90179.is)) in
     unary_made SextB w _ _ c.rd-rd.ensures c.rs1-rs1.ensures (says w (rw (k.0, k.1, k.2) refl))
 
 pub returns-in-90195 : goal.returns-in-90195
 returns-in-90195 c =
     let w = c.args.inst.0 in
-    let k = fields w c.funct3.result c.funct3.ensures c.requires 1 0x605 (lit< tt) c.in-90195.is in
+    let k = fields w c.funct3.result c.funct3.ensures c.requires 1 0x605 (lit< tt) (omega (arith, c.field-top.ensures, c.field-low.ensures, c.in-90195.is)) in
     unary_made SextH w _ _ c.rd-rd.ensures c.rs1-rs1.ensures (says w (rw (k.0, k.1, k.2) refl))
 
 pub returns-in-92195 : goal.returns-in-92195
 returns-in-92195 c =
     let w = c.args.inst.0 in
-    let k = fields w c.funct3.result c.funct3.ensures c.requires 1 0x682 (lit< tt) c.in-92195.is in
+    let k = fields w c.funct3.result c.funct3.ensures c.requires 1 0x682 (lit< tt) (omega (arith, c.field-top.ensures, c.field-low.ensures, c.in-92195.is)) in
     says w (rw (k.0, k.1, k.2) refl)
 
 pub returns-in-92227 : goal.returns-in-92227
 returns-in-92227 c =
     let w = c.args.inst.0 in
-    let k = fields w c.funct3.result c.funct3.ensures c.requires 1 0x684 (lit< tt) c.in-92227.is in
+    let k = fields w c.funct3.result c.funct3.ensures c.requires 1 0x684 (lit< tt) (omega (arith, c.field-top.ensures, c.field-low.ensures, c.in-92227.is)) in
     says w (rw (k.0, k.1, k.2) refl)
 
 pub returns-in-338035 : goal.returns-in-338035
 returns-in-338035 c =
     let w = c.args.inst.0 in
-    let k = fields w c.funct3.result c.funct3.ensures c.requires 5 0x287 (lit< tt) c.in-338035.is in
+    let k = fields w c.funct3.result c.funct3.ensures c.requires 5 0x287 (lit< tt) (omega (arith, c.field-top.ensures, c.field-low.ensures, c.in-338035.is)) in
     unary_made OrcB w _ _ c.rd-rd.ensures c.rs1-rs1.ensures (says w (rw (k.0, k.1, k.2) refl))
 
 pub returns-in-355203 : goal.returns-in-355203
 returns-in-355203 c =
     let w = c.args.inst.0 in
-    let k = fields w c.funct3.result c.funct3.ensures c.requires 5 0x6b8 (lit< tt) c.in-355203.is in
+    let k = fields w c.funct3.result c.funct3.ensures c.requires 5 0x6b8 (lit< tt) (omega (arith, c.field-top.ensures, c.field-low.ensures, c.in-355203.is)) in
     unary_made Rev8 w _ _ c.rd-rd.ensures c.rs1-rs1.ensures (says w (rw (k.0, k.1, k.2) refl))
 
 pub returns-in-348275 : goal.returns-in-348275
 returns-in-348275 c =
     let w = c.args.inst.0 in
-    let k = fields w c.funct3.result c.funct3.ensures c.requires 5 0x507 (lit< tt) c.in-348275.is in
+    let k = fields w c.funct3.result c.funct3.ensures c.requires 5 0x507 (lit< tt) (omega (arith, c.field-top.ensures, c.field-low.ensures, c.in-348275.is)) in
     says w (rw (k.0, k.1, k.2) refl)
 
 pub returns-in-382083 : goal.returns-in-382083
 returns-in-382083 c =
     let w = c.args.inst.0 in
-    let k = fields w c.funct3.result c.funct3.ensures c.requires 5 0xd48 (lit< tt) c.in-382083.is in
+    let k = fields w c.funct3.result c.funct3.ensures c.requires 5 0xd48 (lit< tt) (omega (arith, c.field-top.ensures, c.field-low.ensures, c.in-382083.is)) in
     says w (rw (k.0, k.1, k.2) refl)
 
 pub returns-in-382339 : goal.returns-in-382339
 returns-in-382339 c =
     let w = c.args.inst.0 in
-    let k = fields w c.funct3.result c.funct3.ensures c.requires 5 0xd58 (lit< tt) c.in-382339.is in
+    let k = fields w c.funct3.result c.funct3.ensures c.requires 5 0xd58 (lit< tt) (omega (arith, c.field-top.ensures, c.field-low.ensures, c.in-382339.is)) in
     says w (rw (k.0, k.1, k.2) refl)
 
 pub returns-in_default : goal.returns-in_default
