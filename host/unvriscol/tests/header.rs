@@ -213,7 +213,7 @@ fn answers() {
     let here = refusals.map(|(name, _, error)| (name.to_owned(), vec![error.number()]));
     assert_eq!(here, defined[..], "crate");
     let (left, right) = &definitions.clauses("answer_number")[0];
-    assert_eq!(left.trim(), "Done");
+    assert_eq!(left.trim(), "(Ok value)");
     assert_eq!(header.numbers("UV_DONE"), definitions.numbers_of(right));
 }
 
