@@ -303,7 +303,7 @@ pub fn write_op(out: &mut [u8], at: usize, op: Op, ilen: u8, off: u16)
 }
 
 // The most that each field of an op record may be.
-#[derive(Drop)]
+#[derive(Clone, Copy)]
 pub struct Limits {
     pub kind: u8,
     pub rd: u8,
@@ -312,39 +312,90 @@ pub struct Limits {
     pub imm: u64,
 }
 
-// The table of limits by columns, a digit for each op number from the right: kinds to the base 64, and whether the op has the field. A jump on the op
-// costs more than all its tests.
-const KINDS: u64 = 0o00_00_05_03_06_71_71_00_00;
+// The highest register, and an immediate that is not judged.
+const REGISTER: u8 = 31;
 
-const HAS_RD: u64 = 0b1_1001_1111;
+const ANY: u64 = u64::MAX;
 
-const HAS_RS1: u64 = 0b1_0111_1100;
-
-const HAS_RS2: u64 = 0b0_0110_1000;
-
-const HAS_IMM: u64 = 0b1_1111_0111;
+// By op number.
+static LIMITS: [Limits; 10] = [
+    Limits {
+        kind: 0,
+        rd: REGISTER,
+        rs1: 0,
+        rs2: 0,
+        imm: ANY,
+    },
+    Limits {
+        kind: 0,
+        rd: REGISTER,
+        rs1: 0,
+        rs2: 0,
+        imm: ANY,
+    },
+    Limits {
+        kind: 57,
+        rd: REGISTER,
+        rs1: REGISTER,
+        rs2: 0,
+        imm: ANY,
+    },
+    Limits {
+        kind: 57,
+        rd: REGISTER,
+        rs1: REGISTER,
+        rs2: REGISTER,
+        imm: 0,
+    },
+    Limits {
+        kind: 6,
+        rd: REGISTER,
+        rs1: REGISTER,
+        rs2: 0,
+        imm: ANY,
+    },
+    Limits {
+        kind: 3,
+        rd: 0,
+        rs1: REGISTER,
+        rs2: REGISTER,
+        imm: ANY,
+    },
+    Limits {
+        kind: 5,
+        rd: 0,
+        rs1: REGISTER,
+        rs2: REGISTER,
+        imm: ANY,
+    },
+    Limits {
+        kind: 0,
+        rd: REGISTER,
+        rs1: 0,
+        rs2: 0,
+        imm: ANY,
+    },
+    Limits {
+        kind: 0,
+        rd: REGISTER,
+        rs1: REGISTER,
+        rs2: 0,
+        imm: ANY,
+    },
+    Limits {
+        kind: 0,
+        rd: 0,
+        rs1: 0,
+        rs2: 0,
+        imm: 0xffff_ffff,
+    },
+];
 
 fn limits_of(op: u8) -> Limits
     requires { op ≤ 9 }
     ensures { result ≡ limits op }
 {
-    if op == OpRecord::FALLBACK {
-        return Limits {
-            kind: 0,
-            rd: 0,
-            rs1: 0,
-            rs2: 0,
-            imm: 0xffff_ffff,
-        };
-    }
-    let n = op as u64;
-    Limits {
-        kind: ((KINDS >> (6 * n)) % 64) as u8,
-        rd: ((HAS_RD >> n) % 2 * 31) as u8,
-        rs1: ((HAS_RS1 >> n) % 2 * 31) as u8,
-        rs2: ((HAS_RS2 >> n) % 2 * 31) as u8,
-        imm: (HAS_IMM >> n) % 2 * u64::MAX,
-    }
+    LIMITS[op as usize]
 }
 
 fn within(record: &[u8; 16], most: Limits) -> bool

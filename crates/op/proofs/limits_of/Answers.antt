@@ -1,4 +1,4 @@
--- `op::limits_of` meets its contract: columns and rows are compared at each op number.
+-- `op::limits_of` meets its contract: the tables are compared at each op number.
 use mathlib.Core.Path.{◌≡◌}
 use Prim.Native.Nat.{ℕ, suc, ◌≤◌}
 use native.Mathlib.Omega.{arith}
@@ -9,10 +9,6 @@ use Rattle.op.proofs.limits_of.Goals as goal
 -- a number from k on is k or more
 from : (x k : ℕ) {P : Type 0} → k ≤ x → (x ≡ k → P) → (suc k ≤ x → P) → P
 from x k h this next = decide x k this (λ n. next (omega arith))
-
-pub returns-then-op-eq-FALLBACK : goal.returns-then-op-eq-FALLBACK
-unfolding limits
-returns-then-op-eq-FALLBACK c = rw c.if-op-eq-FALLBACK.true
 
 pub returns : goal.returns
 unfolding limits
@@ -27,4 +23,5 @@ returns c =
     (λ h. from op 6 h (λ e. rw e)
     (λ h. from op 7 h (λ e. rw e)
     (λ h. from op 8 h (λ e. rw e)
-    (λ h. absurd (c.if-op-eq-FALLBACK.false (omega (arith, c.requires))))))))))))
+    (λ h. from op 9 h (λ e. rw e)
+    (λ h. absurd (omega (arith, c.requires))))))))))))
