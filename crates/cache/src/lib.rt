@@ -44,7 +44,7 @@ pub fn value(answer: Answer<Hit>) -> u64
 }
 
 // What was done, as the answer of a notice says, of a list of them, or of a guest write: nothing beside a refusal.
-pub fn report(answer: Answer<Report>) -> Report
+pub fn reported(answer: Answer<Report>) -> Report
     ensures { result ≡ reported answer }
 {
     answer.unwrap_or(Report::nothing())

@@ -24,7 +24,7 @@ const LOADED: usize = 24;
 // What a notice or a guest write did.
 fn reported(rt: &impl Print, call: &str, answer: Answer<Report>) -> io::Result<()> {
     let number = answer::number(&answer);
-    let Report { examined, dropped } = cache::report(answer);
+    let Report { examined, dropped } = cache::reported(answer);
     println!(rt; "  {call}: {number}, slots examined {examined}, blocks dropped {dropped}")
 }
 

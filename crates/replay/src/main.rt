@@ -152,7 +152,7 @@ impl Entry {
 
     fn reports(self, answer: Answer<Report>) -> bool {
         let number = answer::number(&answer);
-        let Report { examined, dropped } = cache::report(answer);
+        let Report { examined, dropped } = cache::reported(answer);
         self.says(number, examined) && dropped == self.dropped
     }
 

@@ -31,7 +31,7 @@ fn done(rt: &impl Print, answer: Answer<()>) -> io::Result<()> {
 
 fn reported(rt: &impl Print, answer: Answer<Report>) -> io::Result<()> {
     let number = answer::number(&answer);
-    let Report { examined, dropped } = cache::report(answer);
+    let Report { examined, dropped } = cache::reported(answer);
     println!(rt; "{number} {examined} {dropped}")
 }
 

@@ -49,7 +49,7 @@ impl From<Answer<Report>> for NumberedReport {
 
     fn from(answer: Answer<Report>) -> NumberedReport {
         let number = answer::number(&answer);
-        let report = cache::report(answer);
+        let report = cache::reported(answer);
         NumberedReport {
             number,
             examined: report.examined,
