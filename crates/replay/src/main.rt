@@ -210,7 +210,8 @@ impl Machine {
     fn lookup(&self, entry: Entry) -> bool {
         let answer = cache::find(&self.store, entry.a);
         let part = cache::lookup(&self.store, entry.a);
-        entry.says(answer::number(&answer), cache::value(answer)) && Digest::new().with_bytes(part) == entry.digest
+        entry.says(answer::number(&answer), cache::value(answer))
+            && Digest::new().with_bytes(part) == entry.digest
     }
 
     // Forms a block and inserts it.
