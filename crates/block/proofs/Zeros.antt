@@ -21,7 +21,7 @@ or-zero a b =
     (λ e. let n : a ≡ 0 = omega (arith, or_add_and a b, and_le_r a b) in let m : b ≡ 0 = omega (arith, or_add_and a b, and_le_l a b) in rw (eq-eqb (bit_or a b) 0 e, eq-eqb a 0 n, eq-eqb b 0 m))
     (λ n. rw (ne_eqb (bit_or a b) 0 n) (sym (not_true (eqb a 0 && eqb b 0) (λ h. let t = and_both (eqb a 0) (eqb b 0) h in n (rw (eqb-true a 0 t.0, eqb-true b 0 t.1))))))
 
-and_true : (b : Bool) → (b && true) ≡ b
+pub and_true : (b : Bool) → (b && true) ≡ b
 and_true true = refl
 and_true false = refl
 

@@ -4,7 +4,7 @@
 ghost use Rattle.std.specs.Prelude.{◌≡◌, true, ◌++◌, ◌+◌, ◌<◌, ◌^◌, length};
 ghost use Rattle.store.specs.Layout.{header, opened, Fitting, holds};
 ghost use Rattle.store.specs.Places.{place_for, blank};
-ghost use Rattle.cache.specs.Answers.{lookup_part, nothing_done};
+ghost use Rattle.cache.specs.Answers.{lookup_value, lookup_part, nothing_done, reported};
 ghost use Rattle.cache.specs.Calls.{make_judged, make_call, lookup_call, insert_judged, inserted_in, insert_call, summed, watched, evicted, noticed_in, dropped_in, report_in, notice_call, flush_call, generation_call};
 
 use answer::{Answer, Refusal};
@@ -34,6 +34,20 @@ impl Report {
             dropped: 0,
         }
     }
+}
+
+// The number beside a lookup's: where in the store the part begins.
+pub fn value(answer: Answer<Hit>) -> u64
+    ensures { result ≡ lookup_value answer }
+{
+    answer.map_or(0, |hit| hit.at as u64)
+}
+
+// What was done, as the answer of a notice says, of a list of them, or of a guest write: nothing beside a refusal.
+pub fn reported(answer: Answer<Report>) -> Report
+    ensures { result ≡ reported answer }
+{
+    answer.unwrap_or(Report::nothing())
 }
 
 fn judge_make(reading: u64, e: u64, base: u64, pages: u64, len: usize) -> Answer<Geometry>

@@ -98,12 +98,12 @@ fn decode<E: Encoded>(reading: u64, raw: E, lent: &mut [u8]) -> Answer<()>
 pub fn decode_word(reading: u64, raw: u32, lent: &mut [u8]) -> Answer<()>
     ensures { (result, lent.new) ≡ word_call reading raw lent.old }
 {
-    decode(reading, raw, lent)
+    decode::<u32>(reading, raw, lent)
 }
 
 // Decodes a halfword into the lent record of sixteen bytes.
 pub fn decode_halfword(reading: u64, raw: u16, lent: &mut [u8]) -> Answer<()>
     ensures { (result, lent.new) ≡ half_call reading raw lent.old }
 {
-    decode(reading, raw, lent)
+    decode::<u16>(reading, raw, lent)
 }

@@ -398,7 +398,8 @@ fn limits_of(op: u8) -> Limits
     LIMITS[op as usize]
 }
 
-fn within(record: &[u8; 16], most: Limits) -> bool
+fn within(record: &[u8], most: Limits) -> bool
+    requires { length «record».now ≡ 16 }
     ensures { result ≡ within «record».now most }
 {
     (record[1] <= most.kind)
@@ -415,7 +416,8 @@ fn ilen_known(op: u8, ilen: u8) -> bool
 }
 
 // Whether sixteen bytes are a record of one op, wherever it stands.
-pub fn op_well_formed(record: &[u8; 16]) -> bool
+pub fn op_well_formed(record: &[u8]) -> bool
+    requires { length «record».now ≡ 16 }
     ensures { result ≡ op_well_formed «record».now }
 {
     let op = record[0];

@@ -24,7 +24,7 @@ const LOADED: usize = 24;
 // What a notice or a guest write did.
 fn reported(rt: &impl Print, call: &str, answer: Answer<Report>) -> io::Result<()> {
     let number = answer::number(&answer);
-    let Report { examined, dropped } = answer.unwrap_or(Report::nothing());
+    let Report { examined, dropped } = cache::reported(answer);
     println!(rt; "  {call}: {number}, slots examined {examined}, blocks dropped {dropped}")
 }
 
@@ -36,20 +36,22 @@ struct Plant {
 }
 
 impl Plant {
-    // A new store, and the routine that holds the contactor open: formed, inserted and found.
-    fn holding(rt: &impl Print) -> io::Result<Self> {
-        let mut plant = Self {
+    fn new() -> Self {
+        Self {
             store: [0; 4200],
             memory: [0; 4096],
-        };
-        let made = cache::make(&mut plant.store, READING, 2, 0, 1);
+        }
+    }
+
+    // A new store, and the routine that holds the contactor open: formed, inserted and found.
+    fn hold(&mut self, rt: &impl Print) -> io::Result<()> {
+        let made = cache::make(&mut self.store, READING, 2, 0, 1);
         println!(rt; "  make: {}", answer::number(&made))?;
-        plant.write(rt, ROUTINE, 4, HOLD)?;
-        plant.write(rt, ROUTINE + 4, 2, RETURN)?;
-        plant.lookup(rt)?;
-        plant.form_and_insert(rt)?;
-        plant.lookup(rt)?;
-        Ok(plant)
+        self.write(rt, ROUTINE, 4, HOLD)?;
+        self.write(rt, ROUTINE + 4, 2, RETURN)?;
+        self.lookup(rt)?;
+        self.form_and_insert(rt)?;
+        self.lookup(rt)
     }
 
     fn write(&mut self, rt: &impl Print, address: u64, n: u64, value: u64) -> io::Result<()> {
@@ -88,7 +90,8 @@ impl Plant {
 // The loader writes as the guest does: the old block is gone before the new routine is there.
 fn told(rt: &impl Print) -> io::Result<()> {
     println!(rt; "the loader tells the cache")?;
-    let mut plant = Plant::holding(rt)?;
+    let mut plant = Plant::new();
+    plant.hold(rt)?;
     plant.write(rt, ROUTINE, 4, CLOSE)?;
     plant.lookup(rt)?;
     plant.form_and_insert(rt)?;
@@ -98,7 +101,8 @@ fn told(rt: &impl Print) -> io::Result<()> {
 // The loader changes the bytes and tells nobody: the theorem's premise fails, and the lookup shows the old block. A notice mends it.
 fn untold(rt: &impl Print) -> io::Result<()> {
     println!(rt; "the loader tells nobody")?;
-    let mut plant = Plant::holding(rt)?;
+    let mut plant = Plant::new();
+    plant.hold(rt)?;
     plant.memory[0x102] = 0x10;
     println!(rt; "  memory changed behind the cache's back")?;
     plant.lookup(rt)?;

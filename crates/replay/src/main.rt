@@ -152,7 +152,7 @@ impl Entry {
 
     fn reports(self, answer: Answer<Report>) -> bool {
         let number = answer::number(&answer);
-        let Report { examined, dropped } = answer.unwrap_or(Report::nothing());
+        let Report { examined, dropped } = cache::reported(answer);
         self.says(number, examined) && dropped == self.dropped
     }
 
@@ -210,8 +210,8 @@ impl Machine {
     fn lookup(&self, entry: Entry) -> bool {
         let answer = cache::find(&self.store, entry.a);
         let part = cache::lookup(&self.store, entry.a);
-        let at = answer.map_or(0, |hit| hit.at as u64);
-        entry.says(answer::number(&answer), at) && Digest::new().with_bytes(part) == entry.digest
+        entry.says(answer::number(&answer), cache::value(answer))
+            && Digest::new().with_bytes(part) == entry.digest
     }
 
     // Forms a block and inserts it.

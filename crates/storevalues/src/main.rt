@@ -3,9 +3,7 @@
 #![tactic(auto)]
 
 use answer::{Answer, Refusal};
-use block::BlockRecord;
 use cache::Report;
-use op::{AluKind, Op};
 use std::io;
 use store::Geometry;
 
@@ -33,22 +31,21 @@ fn done(rt: &impl Print, answer: Answer<()>) -> io::Result<()> {
 
 fn reported(rt: &impl Print, answer: Answer<Report>) -> io::Result<()> {
     let number = answer::number(&answer);
-    let Report { examined, dropped } = answer.unwrap_or(Report::nothing());
+    let Report { examined, dropped } = cache::reported(answer);
     println!(rt; "{number} {examined} {dropped}")
 }
 
 // A block of one op, AluImm Add of four bytes.
 fn record(address: u64) -> [u8; 1040] {
-    let mut record = [0u8; 1040];
-    block::put_head(&mut record, address, 1, 4);
-    let add = Op::AluImm {
-        kind: AluKind::Add,
-        rd: 10,
-        rs1: 0,
-        imm: 1,
-    };
-    op::write_op(&mut record, BlockRecord::HEAD, add, 4, 0);
-    record
+    let mut r = [0u8; 1040];
+    bits::put_doubleword(&mut r, 0, address);
+    r[8] = 1;
+    r[10] = 4;
+    r[16] = 2;
+    r[18] = 10;
+    r[21] = 4;
+    r[24] = 1;
+    r
 }
 
 // The bytes for a store of four slots over two pages, and these pages.
@@ -66,10 +63,8 @@ impl Machine {
         }
     }
 
-    fn made(rt: &impl Print, reading: u64) -> io::Result<Self> {
-        let mut machine = Self::new();
-        done(rt, cache::make(&mut machine.store, reading, 2, 0, 2))?;
-        Ok(machine)
+    fn make(&mut self, rt: &impl Print, reading: u64) -> io::Result<()> {
+        done(rt, cache::make(&mut self.store, reading, 2, 0, 2))
     }
 
     fn insert(&mut self, rt: &impl Print, address: u64) -> io::Result<()> {
@@ -113,7 +108,8 @@ impl Machine {
 
 // Blocks on both pages; a store at 0xFF8 touches one page, at 0xFF9 both.
 fn pages(rt: &impl Print) -> io::Result<()> {
-    let mut machine = Machine::made(rt, 0)?;
+    let mut machine = Machine::new();
+    machine.make(rt, 0)?;
     machine.insert(rt, 0)?;
     machine.insert(rt, 0x1002)?;
     machine.write(rt, 0xff8, 8)?;
@@ -127,7 +123,8 @@ fn pages(rt: &impl Print) -> io::Result<()> {
 
 // An even address and the next share a slot. The bit stays when a block is displaced, and goes with a notice.
 fn displaced(rt: &impl Print) -> io::Result<()> {
-    let mut machine = Machine::made(rt, 0)?;
+    let mut machine = Machine::new();
+    machine.make(rt, 0)?;
     machine.insert(rt, 0x10)?;
     machine.insert(rt, 0x11)?;
     machine.lookup(rt, 0x10)?;
@@ -142,7 +139,8 @@ fn displaced(rt: &impl Print) -> io::Result<()> {
 
 // The only block of a page is displaced by another page's: all slots are examined, and none of them has a block to drop.
 fn displaced_by_another_page(rt: &impl Print) -> io::Result<()> {
-    let mut machine = Machine::made(rt, 0)?;
+    let mut machine = Machine::new();
+    machine.make(rt, 0)?;
     machine.insert(rt, 0x10)?;
     machine.insert(rt, 0x1010)?;
     machine.notice(rt, 0x10)?;
@@ -153,7 +151,8 @@ fn displaced_by_another_page(rt: &impl Print) -> io::Result<()> {
 // Lists of notices: a page with a block, one without, the first again; then nothing is left, in another order too. With blocks on both pages an
 // empty list, and a list that begins behind memory.
 fn lists(rt: &impl Print) -> io::Result<()> {
-    let mut machine = Machine::made(rt, 0)?;
+    let mut machine = Machine::new();
+    machine.make(rt, 0)?;
     machine.insert(rt, 0x10)?;
     machine.notices(rt, &[0x10, 0x1000, 0xfff])?;
     machine.notices(rt, &[0x1000, 0xfff, 0x10])?;
@@ -169,7 +168,8 @@ fn lists(rt: &impl Print) -> io::Result<()> {
 
 // Outside memory, a wrong size, a write past the end and one at the top of all addresses.
 fn refused(rt: &impl Print) -> io::Result<()> {
-    let mut machine = Machine::made(rt, 0)?;
+    let mut machine = Machine::new();
+    machine.make(rt, 0)?;
     machine.lookup(rt, 0x2000)?;
     machine.notice(rt, 0x2000)?;
     machine.insert(rt, 0x2000)?;
@@ -197,10 +197,11 @@ fn made_in(rt: &impl Print, reading: u64) -> io::Result<()> {
 
 // A store with a block whose byte 3 becomes 2: no call takes it for a store, and each leaves every byte.
 fn unknown_reading(rt: &impl Print) -> io::Result<()> {
-    let mut machine = Machine::made(rt, 1)?;
+    let mut machine = Machine::new();
+    machine.make(rt, 1)?;
     machine.insert(rt, 0)?;
     machine.store[3] = 2;
-    let before = machine;
+    let before = machine.store;
     machine.lookup(rt, 0)?;
     machine.insert(rt, 0)?;
     machine.notice(rt, 0)?;
@@ -209,8 +210,8 @@ fn unknown_reading(rt: &impl Print) -> io::Result<()> {
     machine.flush(rt)?;
     machine.generation(rt)?;
     machine.write(rt, 0, 8)?;
-    let same_store = machine.store == before.store;
-    let same_memory = machine.memory == before.memory;
+    let same_store = machine.store == before;
+    let same_memory = machine.memory.iter().fold(0, |seen, byte| seen | *byte) == 0;
     println!(rt; "{} {}", same_store as u64, same_memory as u64)
 }
 

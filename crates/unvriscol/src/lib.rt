@@ -49,7 +49,7 @@ impl From<Answer<Report>> for NumberedReport {
 
     fn from(answer: Answer<Report>) -> NumberedReport {
         let number = answer::number(&answer);
-        let report = answer.unwrap_or(Report::nothing());
+        let report = cache::reported(answer);
         NumberedReport {
             number,
             examined: report.examined,
@@ -109,7 +109,11 @@ pub extern "C" fn uv_make(store: &mut [u8], reading: u64, e: u64, base: u64, pag
 pub extern "C" fn uv_lookup(store: &[u8], address: u64) -> Numbered
     ensures { (result.number, result.value) ≡ both answer_number lookup_value (lookup_call store.now address) }
 {
-    cache::find(store, address).map(|hit| hit.at as u64).into()
+    let answer = cache::find(store, address);
+    Numbered {
+        number: answer::number(&answer),
+        value: cache::value(answer),
+    }
 }
 
 // Inserts the block record into the place of its address's slot.
